@@ -1,0 +1,300 @@
+-- Soundness, but for its sentences on genotypes and saving: what each event keeps of it.
+use Rattle.std.proofs.Common.{◌≡◌, ℕ, suc, ◌+◌, ◌<◌, ◌≤◌, Bool, true, false, cond, List, [], ◌∷◌, ◌++◌, refl, sym, ◌∙◌, ap, subst, arith, inl, inr, length, length-append}
+use Rattle.std.specs.Prelude.{Some, None, Option, IfSome, IsSome, not, map, filter, unwrap_or, ◌==◌, if◌then◌else◌, slice_index, slice_range, slice_set}
+use Rattle.std.proofs.lemmas.List.{length-set}
+use Rattle.std.proofs.lemmas.Bool.Decides.{nat_tests, eqb_tells}
+use Rattle.tierra_model.specs.declared.creatures.Block.{Block}
+use Rattle.tierra_model.specs.declared.creatures.Creature.{Creature}
+use Rattle.tierra_model.specs.declared.events.Event.{Event}
+use Rattle.tierra_model.specs.declared.events.Event.TheVariants as event
+use Rattle.tierra_model.specs.Counting.{sum_of, one_if, times_in}
+use Rattle.tierra_model.specs.Ranges.{IsBlock}
+use Rattle.tierra_model.specs.Living.{one_of, with_record, without, newborn, nobody, ids_of}
+use Rattle.tierra_model.specs.World.{World, Genotype, front, put, first_of}
+use Rattle.tierra_model.specs.Sound.{Ordered}
+use Rattle.tierra_model.specs.Individuals.{with_individual, genotypes_at_birth}
+use Rattle.tierra_model.specs.Events.{apply_event, record_after, with_birth}
+use Rattle.tierra_model.specs.Replay.{CanHappen}
+use Rattle.tierra_model.proofs.Living.{is_here}
+use Rattle.tierra_model.proofs.Owners.{ids_of-with, ids_of-append, ids_of-without, times_in-append, times_in-filter_same, times_in-filter_other, sum_of-without}
+use Rattle.tierra_model.proofs.Orders.{ordered-filter, ordered-push}
+use Rattle.tierra_model.proofs.Commutes.{Led, mark}
+use Rattle.tierra_model.proofs.Tidy.{Tidy}
+use Rattle.tierra_model.proofs.Happens.{leads, tidy, victim_here}
+
+abbrev pub Each : {X : Type 0} → (X → Type 0) → List X → Type 0
+Each P [] = Unit {0}
+Each P (x ∷ xs) = P x × Each P xs
+
+pub each-map : {X : Type 0} (P Q : X → Type 0) → ((x : X) → P x → Q x) → (xs : List X) → Each P xs → Each Q xs
+each-map P Q f [] h = tt
+each-map P Q f (x ∷ xs) h = (f x h.0, each-map P Q f xs h.1)
+
+pub each-append : {X : Type 0} (P : X → Type 0) (xs ys : List X) → Each P xs → Each P ys → Each P (xs ++ ys)
+each-append P [] ys h k = k
+each-append P (x ∷ xs) ys h k = (h.0, each-append P xs ys h.1 k)
+
+if_both : {X : Type 0} (P : X → Type 0) (b : Bool) (x y : X) → P x → P y → P (cond b x y)
+if_both P true x y h k = h
+if_both P false x y h k = k
+
+pub each-with : (P : Creature → Type 0) (c : Creature) (xs : List Creature) → P c → Each P xs → Each P (with_record c xs)
+each-with P c [] h k = tt
+each-with P c (x ∷ xs) h k = (if_both P (x.id == c.id) c x h k.0, each-with P c xs h k.1)
+
+if_each : {X : Type 0} (P : X → Type 0) (b : Bool) (xs ys : List X) → Each P xs → Each P ys → Each P (cond b xs ys)
+if_each P true xs ys h k = h
+if_each P false xs ys h k = k
+
+pub each-without : (P : Creature → Type 0) (id : ℕ) (xs : List Creature) → Each P xs → Each P (without id xs)
+each-without P id [] h = tt
+each-without P id (x ∷ xs) h =
+    if_each P (not (x.id == id)) (x ∷ without id xs) (without id xs) (h.0, each-without P id xs h.1) (each-without P id xs h.1)
+
+pub each-one : (P : Creature → Type 0) (xs : List Creature) (id : ℕ) → is_here xs id ≡ true → Each P xs → P (one_of xs id)
+each-one P [] id h k = cc
+each-one P (x ∷ xs) id h k = elim (eqb_tells x.id id) [
+  | inl e ↦ subst P (sym (ap (λ (b : Bool). unwrap_or (cond b (Some x) (Rattle.std.specs.Prelude.find (λ c. c.id == id) xs)) nobody) e.0)) k.0
+  | inr e ↦ subst P (sym (ap (λ (b : Bool). unwrap_or (cond b (Some x) (Rattle.std.specs.Prelude.find (λ c. c.id == id) xs)) nobody) e.0))
+      (each-one P xs id (rw (e.0) at h) k.1)
+]
+
+-- one creature of a world of n cells, where errors and bred are at most e, and moved and ran at most m
+pub record Fine (n e m : ℕ) (c : Creature) : Type 0 where
+  pub own : IsBlock n c.own
+  pub daughter : IfSome c.daughter (IsBlock n)
+  pub ip : c.ip < n
+  pub sp : c.sp < 10
+  pub errors : c.errors ≤ e
+  pub moved : c.moved ≤ m
+  pub ran : c.ran ≤ m
+  pub bred : c.bred ≤ e
+
+pub record Core (n e m b : ℕ) (w : World) : Type 0 where
+  pub led : Led w
+  pub tidy : Tidy w
+  pub size : w.settings.soup_size ≡ n
+  pub cells : length w.soup ≡ n
+  pub each : Each (Fine n e m) w.living
+  pub slicer : (id : ℕ) → times_in w.slicer id ≡ times_in (ids_of w.living) id
+  pub order : Ordered 1 (ids_of w.living)
+  pub zero : times_in (ids_of w.living) 0 ≡ 0
+  pub count : length w.living + w.deaths + 1 ≡ w.next_birth
+  pub births : w.births < w.next_birth
+  pub next_birth : w.next_birth ≤ b
+
+-- how much an event may raise a count of errors or of daughters, and the next birth number
+abbrev pub errs : Event → ℕ
+errs (event.Write at value) = 0
+errs event.Err = 1
+errs event.Good = 0
+errs event.GiveUp = 0
+errs (event.Mal at size) = 0
+errs (event.Reap place) = 0
+errs (event.Divide ran moved) = 1
+
+abbrev pub bears : Event → ℕ
+bears (event.Write at value) = 0
+bears event.Err = 0
+bears event.Good = 0
+bears event.GiveUp = 0
+bears (event.Mal at size) = 0
+bears (event.Reap place) = 0
+bears (event.Divide ran moved) = 1
+
+more_errors : (n e m k : ℕ) (xs : List Creature) → Each (Fine n e m) xs → Each (Fine n (e + k) m) xs
+more_errors n e m k xs h = each-map (Fine n e m) (Fine n (e + k) m) (λ x f.
+    record { own = f.own; daughter = f.daughter; ip = f.ip; sp = f.sp; errors = omega (arith, f.errors); moved = f.moved; ran = f.ran; bred = omega (arith, f.bred) }) xs h
+
+length-with : (c : Creature) (xs : List Creature) → length (with_record c xs) ≡ length xs
+length-with c [] = refl
+length-with c (x ∷ xs) = ap (λ (n : ℕ). suc n) (length-with c xs)
+
+length_total : (xs : List Creature) → sum_of (λ _. 1) xs ≡ length xs
+length_total [] = refl
+length_total (x ∷ xs) = omega (arith, length_total xs)
+
+-- an event that marks the record alone
+core-mark : (v : Event) (n e m b : ℕ) (w : World) → Core n e m b w → Tidy (mark v w) → Led (mark v w) → Fine n (e + errs v) m (record_after v (front w)) → Core n (e + errs v) m b (mark v w)
+core-mark v n e m b w c t l f =
+    let d : Creature = record_after v (front w) in
+    record {
+      led = l;
+      tidy = t;
+      size = c.size;
+      cells = c.cells;
+      each = each-with (Fine n (e + errs v) m) d w.living f (more_errors n e m (errs v) w.living c.each);
+      slicer = λ id. c.slicer id ∙ sym (ap (λ (l : List ℕ). times_in l id) (ids_of-with d w.living));
+      order = subst (Ordered 1) (sym (ids_of-with d w.living)) c.order;
+      zero = ap (λ (l : List ℕ). times_in l 0) (ids_of-with d w.living) ∙ c.zero;
+      count = ap (λ (k : ℕ). k + w.deaths + 1) (length-with d w.living) ∙ c.count;
+      births = c.births;
+      next_birth = c.next_birth;
+    }
+
+-- a record put in the place of the front's
+pub core-put : (d : Creature) (n e m b k : ℕ) (w : World) → Core n e m b w → Tidy (put d w) → Led (put d w) → Fine n e (m + k) d → Core n e (m + k) b (put d w)
+core-put d n e m b k w c t l f =
+    record {
+      led = l;
+      tidy = t;
+      size = c.size;
+      cells = c.cells;
+      each = each-with (Fine n e (m + k)) d w.living f (each-map (Fine n e m) (Fine n e (m + k)) (λ x g.
+          record { own = g.own; daughter = g.daughter; ip = g.ip; sp = g.sp; errors = g.errors; moved = omega (arith, g.moved); ran = omega (arith, g.ran); bred = g.bred }) w.living c.each);
+      slicer = λ id. c.slicer id ∙ sym (ap (λ (l : List ℕ). times_in l id) (ids_of-with d w.living));
+      order = subst (Ordered 1) (sym (ids_of-with d w.living)) c.order;
+      zero = ap (λ (l : List ℕ). times_in l 0) (ids_of-with d w.living) ∙ c.zero;
+      count = ap (λ (k : ℕ). k + w.deaths + 1) (length-with d w.living) ∙ c.count;
+      births = c.births;
+      next_birth = c.next_birth;
+    }
+
+pub front_fine : (n e m b : ℕ) (w : World) → Core n e m b w → Fine n e m (front w)
+front_fine n e m b w c = each-one (Fine n e m) w.living (first_of w.slicer) c.led.here c.each
+
+pub weaken : (n e m b e' b' : ℕ) (w : World) → e ≤ e' → b ≤ b' → Core n e m b w → Core n e' m b' w
+weaken n e m b e' b' w h k c =
+    record {
+      led = c.led;
+      tidy = c.tidy;
+      size = c.size;
+      cells = c.cells;
+      each = each-map (Fine n e m) (Fine n e' m) (λ x f. record { own = f.own; daughter = f.daughter; ip = f.ip; sp = f.sp; errors = omega (arith, f.errors); moved = f.moved; ran = f.ran; bred = omega (arith, f.bred) }) w.living c.each;
+      slicer = c.slicer;
+      order = c.order;
+      zero = c.zero;
+      count = c.count;
+      births = c.births;
+      next_birth = omega (arith, c.next_birth);
+    }
+
+nonzero : (n : ℕ) → 0 < n → (n == 0) ≡ false
+nonzero n h = grind (arith, nat_tests)
+
+fine_born : (n e m id g : ℕ) (b : Block) → IsBlock n b → Fine n e m (newborn id b g)
+fine_born n e m id g b h =
+    record { own = h; daughter = tt; ip = omega (arith, h.0, h.2); sp = omega arith; errors = omega arith; moved = omega arith; ran = omega arith; bred = omega arith }
+
+core-divide : (n e m b ran moved : ℕ) (known : List Genotype) (w : World) (d : Option Block) → Core n e m b w → IfSome d (IsBlock n) → IsSome d
+    → Led (put (record_after (event.Divide ran moved) (front w)) (with_birth known d (front w).genotype w)) → Tidy (put (record_after (event.Divide ran moved) (front w)) (with_birth known d (front w).genotype w))
+    → Core n (e + 1) m (b + 1) (put (record_after (event.Divide ran moved) (front w)) (with_birth known d (front w).genotype w))
+core-divide n e m b ran moved known w None c h k l t = (let z : false ≡ true = k in cc)
+core-divide n e m b ran moved known w (Some x) c h k l t =
+    let g : ℕ = (with_individual known (slice_range w.soup x.at (x.at + x.size)) (Some (front w).genotype) (w.quanta + 1)).1 in
+    let nb : Creature = newborn w.next_birth x g in
+    let d : Creature = record_after (event.Divide ran moved) (front w) in
+    let f = front_fine n e m b w c in
+    let ids : ids_of (with_record d (w.living ++ nb ∷ [])) ≡ ids_of w.living ++ w.next_birth ∷ [] = ids_of-with d (w.living ++ nb ∷ []) ∙ ids_of-append w.living (nb ∷ []) in
+    let none : (w.next_birth == 0) ≡ false = nonzero w.next_birth (omega (arith, c.count)) in
+    record {
+      led = l;
+      tidy = t;
+      size = c.size;
+      cells = c.cells;
+      each = each-with (Fine n (e + 1) m) d (w.living ++ nb ∷ []) (record { own = f.own; daughter = tt; ip = f.ip; sp = f.sp; errors = omega (arith, f.errors); moved = omega arith; ran = omega arith; bred = omega (arith, f.bred) })
+          (each-append (Fine n (e + 1) m) w.living (nb ∷ []) (more_errors n e m 1 w.living c.each) (fine_born n (e + 1) m w.next_birth g x h, tt));
+      slicer = λ id. times_in-append w.slicer (w.next_birth ∷ []) id ∙ ap (λ (q : ℕ). q + times_in (w.next_birth ∷ []) id) (c.slicer id)
+          ∙ sym (ap (λ (y : List ℕ). times_in y id) ids ∙ times_in-append (ids_of w.living) (w.next_birth ∷ []) id);
+      order = subst (Ordered 1) (sym ids) (ordered-push 1 w.next_birth (ids_of w.living) (omega (arith, c.count)) c.tidy.fresh c.order);
+      zero = ap (λ (y : List ℕ). times_in y 0) ids ∙ times_in-append (ids_of w.living) (w.next_birth ∷ []) 0 ∙ omega (arith, c.zero, ap one_if none);
+      count = omega (arith, length-with d (w.living ++ nb ∷ []), length-append w.living (nb ∷ []), c.count);
+      births = omega (arith, c.births);
+      next_birth = omega (arith, c.next_birth);
+    }
+
+pub core : (v : Event) (n e m b : ℕ) (w : World) → Core n e m b w → CanHappen w v → Core n (e + errs v) m (b + bears v) (apply_event w v)
+unfolding apply_event
+core (event.Write at value) n e m b w c k =
+    let v : Event = event.Write at value in
+    let l = leads w v c.led k in
+    weaken n e m b (e + 0) (b + 0) (apply_event w v) (omega arith) (omega arith) (record {
+      led = l.led;
+      tidy = tidy w v c.led c.tidy k;
+      size = c.size;
+      cells = length-set w.soup at value ∙ c.cells;
+      each = c.each;
+      slicer = c.slicer;
+      order = c.order;
+      zero = c.zero;
+      count = c.count;
+      births = c.births;
+      next_birth = c.next_birth;
+    })
+core event.Err n e m b w c k =
+    let v : Event = event.Err in
+    let l = leads w v c.led k in
+    let f = front_fine n e m b w c in
+    let d : Creature = record_after v (front w) in
+    record {
+      led = l.led;
+      tidy = tidy w v c.led c.tidy k;
+      size = c.size;
+      cells = c.cells;
+      each = each-with (Fine n (e + 1) m) d w.living (record { own = f.own; daughter = f.daughter; ip = f.ip; sp = f.sp; errors = omega (arith, f.errors); moved = f.moved; ran = f.ran; bred = omega (arith, f.bred) })
+          (more_errors n e m 1 w.living c.each);
+      slicer = λ id. c.slicer id ∙ sym (ap (λ (x : List ℕ). times_in x id) (ids_of-with d w.living));
+      order = subst (Ordered 1) (sym (ids_of-with d w.living)) c.order;
+      zero = ap (λ (x : List ℕ). times_in x 0) (ids_of-with d w.living) ∙ c.zero;
+      count = ap (λ (j : ℕ). j + w.deaths + 1) (length-with d w.living) ∙ c.count;
+      births = c.births;
+      next_birth = omega (arith, c.next_birth);
+    }
+core event.Good n e m b w c k =
+    let v : Event = event.Good in
+    weaken n e m b (e + 0) (b + 0) (apply_event w v) (omega arith) (omega arith) (record {
+      led = (leads w v c.led k).led;
+      tidy = tidy w v c.led c.tidy k;
+      size = c.size;
+      cells = c.cells;
+      each = c.each;
+      slicer = c.slicer;
+      order = c.order;
+      zero = c.zero;
+      count = c.count;
+      births = c.births;
+      next_birth = c.next_birth;
+    })
+core event.GiveUp n e m b w c k =
+    let v : Event = event.GiveUp in
+    let f = front_fine n e m b w c in
+    weaken n (e + 0) m b (e + 0) (b + 0) (apply_event w v) (omega arith) (omega arith)
+    (core-mark v n e m b w c (tidy w v c.led c.tidy k) (leads w v c.led k).led
+    (record { own = f.own; daughter = tt; ip = f.ip; sp = f.sp; errors = omega (arith, f.errors); moved = omega arith; ran = f.ran; bred = omega (arith, f.bred) }))
+core (event.Mal at size) n e m b w c k =
+    let v : Event = event.Mal at size in
+    let f = front_fine n e m b w c in
+    weaken n (e + 0) m b (e + 0) (b + 0) (apply_event w v) (omega arith) (omega arith)
+    (core-mark v n e m b w c (tidy w v c.led c.tidy k) (leads w v c.led k).led
+    (record { own = f.own; daughter = subst (λ j. IsBlock j (record { at = at; size = size })) c.size k.1; ip = f.ip; sp = f.sp; errors = omega (arith, f.errors); moved = omega arith; ran = f.ran; bred = omega (arith, f.bred) }))
+core (event.Reap place) n e m b w c k =
+    let v : Event = event.Reap place in
+    let id : ℕ = slice_index w.reaper place in
+    let here = victim_here w place c.tidy k.0 in
+    let one : length (without id w.living) + 1 ≡ length w.living =
+    omega (arith, sum_of-without (λ _. 1) w.living id here (c.tidy.once id), length_total w.living, length_total (without id w.living)) in
+    weaken n e m b (e + 0) (b + 0) (apply_event w v) (omega arith) (omega arith) (record {
+      led = (leads w v c.led k).led;
+      tidy = tidy w v c.led c.tidy k;
+      size = c.size;
+      cells = c.cells;
+      each = each-without (Fine n e m) id w.living c.each;
+      slicer = λ j. elim (eqb_tells j id) [
+        | inl a ↦ subst (λ q. times_in (filter (λ x. not (x == id)) w.slicer) q ≡ times_in (ids_of (without id w.living)) q) (sym a.1)
+            (times_in-filter_same w.slicer id ∙ sym (ap (λ (x : List ℕ). times_in x id) (ids_of-without id w.living) ∙ times_in-filter_same (ids_of w.living) id))
+        | inr a ↦ times_in-filter_other w.slicer id j a.1 ∙ c.slicer j
+            ∙ sym (ap (λ (x : List ℕ). times_in x j) (ids_of-without id w.living) ∙ times_in-filter_other (ids_of w.living) id j a.1)
+      ];
+      order = subst (Ordered 1) (sym (ids_of-without id w.living)) (ordered-filter 1 id (ids_of w.living) c.order);
+      zero = ap (λ (x : List ℕ). times_in x 0) (ids_of-without id w.living) ∙ elim (eqb_tells 0 id) [
+        | inl a ↦ subst (λ q. times_in (filter (λ x. not (x == id)) (ids_of w.living)) q ≡ 0) (sym a.1) (times_in-filter_same (ids_of w.living) id)
+        | inr a ↦ times_in-filter_other (ids_of w.living) id 0 a.1 ∙ c.zero
+      ];
+      count = omega (arith, one, c.count);
+      births = c.births;
+      next_birth = c.next_birth;
+    })
+core (event.Divide ran moved) n e m b w c k =
+    let v : Event = (event.Divide ran moved) in
+    let f = front_fine n e m b w c in
+    core-divide n e m b ran moved (genotypes_at_birth (front w) ran moved w.genotypes) w (front w).daughter c f.daughter k.0 (leads w v c.led k).led (tidy w v c.led c.tidy k)

@@ -1,0 +1,5 @@
+use Rattle.tierra_model.proofs.StandIns.{yards_are_safe}
+use Rattle.tierra_model.proofs.laws.yards_are_safe.Goals as goal
+
+pub returns : goal.returns
+returns c = yards_are_safe

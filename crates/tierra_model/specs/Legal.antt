@@ -1,0 +1,11 @@
+-- Which histories are those of a setup.
+use Rattle.std.specs.Prelude.{List, Some, slice_get, ℕ, ◌+◌, ◌≡◌}
+use Rattle.tierra_model.specs.declared.history.Entry.{Entry}
+use Rattle.tierra_model.specs.World.{first_of}
+use Rattle.tierra_model.specs.Setups.{SetupFields}
+use Rattle.tierra_model.specs.Serial.{serial}
+
+-- Entry i, counted from 1, has quantum i and the creature that is first before it.
+abbrev pub IsLegal : List Entry → SetupFields → Type 0
+IsLegal history setup = (i : ℕ) (e : Entry) → slice_get history i ≡ Some e
+    → (e.quantum ≡ i + 1) × (e.creature ≡ first_of (serial setup i).slicer)

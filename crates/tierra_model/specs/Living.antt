@@ -1,0 +1,44 @@
+-- Living.
+use Rattle.std.specs.Prelude.{List, None, filter, find, if◌then◌else◌, map, not, pos, replicate, unwrap_or, ℕ, ◌==◌}
+use Rattle.tierra_model.specs.declared.creatures.Block.{Block}
+use Rattle.tierra_model.specs.declared.creatures.Creature.{Creature}
+use Rattle.tierra_model.specs.Blocks.{no_block}
+
+-- a newborn
+abbrev pub newborn : ℕ → Block → ℕ → Creature
+newborn id own genotype =
+    record {
+      id = id;
+      own = own;
+      daughter = None;
+      moved = 0;
+      ax = pos 0;
+      bx = pos 0;
+      cx = pos 0;
+      dx = pos 0;
+      ip = own.at;
+      stack = replicate 10 (pos 0);
+      sp = 0;
+      flag = 0;
+      errors = 0;
+      genotype = genotype;
+      ran = 0;
+      bred = 0;
+    }
+
+-- number 0 is nobody's: what is asked of a creature that does not live is asked of this one
+abbrev pub nobody : Creature
+nobody = newborn 0 no_block 0
+
+abbrev pub one_of : List Creature → ℕ → Creature
+one_of living id = unwrap_or (find (λ c. c.id == id) living) nobody
+
+-- the living with c in the place of the one of its birth number
+abbrev pub with_record : Creature → List Creature → List Creature
+with_record c living = map (λ x. if x.id == c.id then c else x) living
+
+abbrev pub without : ℕ → List Creature → List Creature
+without id living = filter (λ x. not (x.id == id)) living
+
+abbrev pub ids_of : List Creature → List ℕ
+ids_of living = map (λ c. c.id) living

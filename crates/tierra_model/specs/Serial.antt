@@ -1,0 +1,41 @@
+-- One creature at a time.
+use Rattle.std.specs.Prelude.{List, None, [], drop, length, replicate, suc, take, zero, ℕ, ◌++◌, ◌+◌, ◌∷◌}
+use Rattle.tierra_model.specs.declared.setups.Inoculum.{Inoculum}
+use Rattle.tierra_model.specs.declared.parameters.Settings.{Settings}
+use Rattle.tierra_model.specs.Quantum.{quantum}
+use Rattle.tierra_model.specs.World.{World}
+use Rattle.tierra_model.specs.Events.{with_creature}
+use Rattle.tierra_model.specs.Setups.{SetupFields, block_of}
+
+-- ys from place at on, in the place of what xs has there
+abbrev pub overwrite : List ℕ → ℕ → List ℕ → List ℕ
+overwrite xs at ys = take at xs ++ ys ++ drop (at + length ys) xs
+
+abbrev pub empty_world : Settings → World
+empty_world s =
+    record {
+      settings = s;
+      soup = replicate s.soup_size 0;
+      living = [];
+      slicer = [];
+      reaper = [];
+      genotypes = [];
+      saved = [];
+      births = 0;
+      deaths = 0;
+      next_birth = 1;
+      quanta = 0;
+    }
+
+abbrev pub with_inocula : List Inoculum → World → World
+with_inocula [] w = w
+with_inocula (c ∷ cs) w =
+    with_inocula cs
+    (with_creature w.genotypes (block_of c) c.code None 0 (record w { soup = overwrite w.soup c.at c.code }))
+
+unfoldable pub start : SetupFields → World
+start setup = with_inocula setup.creatures (empty_world setup.settings)
+
+unfoldable pub serial : SetupFields → ℕ → World
+serial setup zero = start setup
+serial setup (suc n) = quantum (serial setup n)

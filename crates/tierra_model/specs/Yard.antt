@@ -1,0 +1,28 @@
+-- Yard.
+use Rattle.std.specs.Prelude.{Bool, List, None, if◌then◌else◌, map, ℕ, ◌+◌, ◌==◌, ◌^◌}
+use Rattle.tierra_model.specs.declared.creatures.Creature.{Creature}
+use Rattle.tierra_model.specs.declared.creatures.Standing.{Standing}
+use Rattle.tierra_model.specs.Blocks.{no_block}
+use Rattle.tierra_model.specs.Living.{one_of}
+use Rattle.tierra_model.specs.World.{World}
+
+abbrev pub standing : Creature → Standing
+standing c = record { id = c.id; errors = c.errors; own = c.own; daughter = c.daughter }
+
+abbrev pub yard : World → List Standing
+yard w = map (λ id. standing (one_of w.living id)) w.reaper
+
+-- the standing of the record in the place of the one of its birth number
+abbrev pub with_standing : Creature → List Standing → List Standing
+with_standing c standings = map (λ x. if x.id == c.id then standing c else x) standings
+
+abbrev pub is_his : Creature → Standing → Bool
+is_his c x = x.id == c.id
+
+-- a name for what is past the end of a yard
+abbrev pub no_standing : Standing
+no_standing = record { id = 0; errors = 0; own = no_block; daughter = None }
+
+-- the number that stands for newborn k of the quantum
+abbrev pub stand_in : ℕ → ℕ
+stand_in k = 2 ^ 63 + k

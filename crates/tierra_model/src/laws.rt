@@ -1,0 +1,57 @@
+//! Laws of the definitions: functions that do nothing, each with its law as its contract.
+
+ghost use Rattle.tierra_model.specs.Findings.{LawOfFindings};
+ghost use Rattle.tierra_model.specs.Difference.{DifferenceTells, LeastPlace};
+ghost use Rattle.tierra_model.specs.Laws.{QuantumIsSound, SerialIsSound, BankIsGroups, BankInRange, YardsAreSafe};
+ghost use Rattle.tierra_model.specs.Nearest.{NearestIsFound};
+ghost use Rattle.tierra_model.specs.Log.{SceneAlone};
+
+/// Does nothing: its contract is the law that a finding which stands and agrees is the quantum.
+pub fn law_of_findings()
+    ensures { LawOfFindings }
+{}
+
+/// Does nothing: its contract is the law that sound worlds stay sound.
+pub fn quantum_is_sound()
+    ensures { QuantumIsSound }
+{}
+
+/// Does nothing: its contract is the law that every world of a serial run is sound.
+pub fn serial_is_sound()
+    ensures { SerialIsSound }
+{}
+
+/// Does nothing: its contract is the law that there is no first difference exactly where reads agree.
+pub fn difference_tells()
+    ensures { DifferenceTells }
+{}
+
+/// Does nothing: its contract is the law that a list's difference is at the least place.
+pub fn least_place()
+    ensures { LeastPlace }
+{}
+
+/// Does nothing: its contract is the law that the groups of a run's world are its setup's genebank.
+pub fn bank_is_groups()
+    ensures { BankIsGroups }
+{}
+
+/// Does nothing: its contract is the law that a search finds the matching candidate of the least distance.
+pub fn nearest_is_found()
+    ensures { NearestIsFound }
+{}
+
+/// Does nothing: its contract is the law that what a quantum reads and does are those of its scene.
+pub fn scene_alone()
+    ensures { SceneAlone }
+{}
+
+/// Does nothing: its contract is the law that each group of a genebank is in the ranges.
+pub fn bank_in_range()
+    ensures { BankInRange }
+{}
+
+/// Does nothing: its contract is the law that stand-ins are nobody's, and that who is not in a yard does not move in it.
+pub fn yards_are_safe()
+    ensures { YardsAreSafe }
+{}

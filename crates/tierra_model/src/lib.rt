@@ -1,0 +1,33 @@
+//! The model of a Tierra soup: the plain types that every crate speaks of, and in `specs/` the definitions that
+//! contracts cite. `docs/MODEL.md` tells each rule in words, beside the name of its definition.
+#![tactic(auto)]
+
+mod creatures;
+mod events;
+mod genebank;
+pub mod history;
+mod laws;
+mod lists;
+mod ops;
+mod parameters;
+mod searching;
+mod setups;
+mod views;
+
+pub use creatures::{Block, Creature, Effort, Standing};
+pub use events::{Act, Event};
+pub use genebank::{Form, Group, Groups, Name, Saved, SavedList};
+pub use history::{Entry, How, Stale};
+pub use laws::{
+    bank_in_range, bank_is_groups, difference_tells, law_of_findings, least_place,
+    nearest_is_found, quantum_is_sound, scene_alone, serial_is_sound, yards_are_safe,
+};
+pub use lists::{Code, EventList, FreeList, Text, Yard};
+pub use ops::Op;
+pub use parameters::Settings;
+pub use searching::{Found, Way};
+pub use setups::{Inoculum, SeedList, Setup, grow_setup};
+pub use views::{Now, View};
+
+/// Want of memory.
+pub type OutOfMemory = std::alloc::AllocError;

@@ -1,0 +1,38 @@
+//! The instructions.
+
+/// The 32 instructions, in the order of their codes.
+#[derive(Clone, Copy, Drop, PartialEq, Eq, Debug)]
+pub enum Op {
+    Nop0,
+    Nop1,
+    Or1,
+    Shl,
+    Zero,
+    IfCz,
+    SubAb,
+    SubAc,
+    IncA,
+    IncB,
+    DecC,
+    IncC,
+    PushAx,
+    PushBx,
+    PushCx,
+    PushDx,
+    PopAx,
+    PopBx,
+    PopCx,
+    PopDx,
+    Jmp,
+    JmpB,
+    Call,
+    Ret,
+    MovCd,
+    MovAb,
+    MovIab,
+    Adr,
+    AdrB,
+    AdrF,
+    Mal,
+    Divide,
+}
