@@ -25,7 +25,7 @@ use Rattle.tierra_model.proofs.Tidy.{Tidy, owners-put}
 use Rattle.tierra_model.proofs.Owners.{ids_of-with}
 use Rattle.tierra_model.proofs.Genotypes.{Listed, Counts, with_individual-listed, totals-weaker}
 use Rattle.tierra_model.proofs.Savings.{Saves, saves-with_individual}
-use Rattle.tierra_model.proofs.Efforts.{length-with_noted_cell, with_noted_cell-listed, with_noted_cell-saves}
+use Rattle.tierra_model.proofs.Efforts.{length-with_effort_of, with_effort_of-listed, with_effort_of-saves}
 use Rattle.tierra_model.proofs.Steps.{InSoup}
 
 -- ---- codes
@@ -92,8 +92,8 @@ born_during s e m b z q e' b' z' ran moved w (Some x) d k h r1 b1 z1 c =
     let code : List ℕ = slice_range w.soup x.at (x.at + x.size) in
     let is = code_of_block s.soup_size w.soup x k d.core.cells d.codes in
     let known : List Genotype = genotypes_at_birth mother ran moved w.genotypes in
-    let long : length known ≡ length w.genotypes = length-with_noted_cell mother.genotype (mother.bred + 1) effort w.genotypes in
-    let listed = with_noted_cell-listed b mother.genotype (mother.bred + 1) effort w.genotypes r1 d.listed in
+    let long : length known ≡ length w.genotypes = length-with_effort_of mother.genotype (mother.bred + 1) effort w.genotypes in
+    let listed = with_effort_of-listed b mother.genotype (mother.bred + 1) effort w.genotypes r1 d.listed in
     let gs : List Genotype = (with_individual known code (Some mother.genotype) (w.quanta + 1)).0 in
     let j : ℕ = (with_individual known code (Some mother.genotype) (w.quanta + 1)).1 in
     let mine = front_listed s e m b z q w d in
@@ -104,7 +104,7 @@ born_during s e m b z q e' b' z' ran moved w (Some x) d k h r1 b1 z1 c =
     let size = is.1 in
     let few = k.1 in
     let saves = saves-with_individual q z s.save_at known gs code j w.saved r.1 r.0.efforts
-    (with_noted_cell-saves q z s.save_at mother.genotype (mother.bred + 1) effort w.genotypes w.saved d.saves) in
+    (with_effort_of-saves q z s.save_at mother.genotype (mother.bred + 1) effort w.genotypes w.saved d.saves) in
     record {
       core = c;
       settings = d.settings;

@@ -12,10 +12,10 @@ use Rattle.tierra_model.specs.Individuals.{first_of_both, with_effort, with_effo
 use Rattle.tierra_model.proofs.Genotypes.{HasEfforts, Listed}
 use Rattle.tierra_model.proofs.Savings.{Saves, size-same}
 
-pub length-with_noted_cell : (k bred : ℕ) (e : Effort) (gs : List Genotype) → length (with_effort_of k bred e gs) ≡ length gs
-length-with_noted_cell k bred e [] = refl
-length-with_noted_cell zero bred e (g ∷ gs) = refl
-length-with_noted_cell (suc k) bred e (g ∷ gs) = ap (λ (n : ℕ). suc n) (length-with_noted_cell k bred e gs)
+pub length-with_effort_of : (k bred : ℕ) (e : Effort) (gs : List Genotype) → length (with_effort_of k bred e gs) ≡ length gs
+length-with_effort_of k bred e [] = refl
+length-with_effort_of zero bred e (g ∷ gs) = refl
+length-with_effort_of (suc k) bred e (g ∷ gs) = ap (λ (n : ℕ). suc n) (length-with_effort_of k bred e gs)
 
 pub code-with_noted_cell : (k bred : ℕ) (e : Effort) (gs : List Genotype) (j : ℕ) → (genotype_at (with_effort_of k bred e gs) j).code ≡ (genotype_at gs j).code
 code-with_noted_cell k bred e [] j = refl
@@ -24,12 +24,12 @@ code-with_noted_cell zero bred e (g ∷ gs) (suc j) = refl
 code-with_noted_cell (suc k) bred e (g ∷ gs) zero = refl
 code-with_noted_cell (suc k) bred e (g ∷ gs) (suc j) = code-with_noted_cell k bred e gs j
 
-sum_of-with_noted_cell : (k bred : ℕ) (e : Effort) (gs : List Genotype) (j : ℕ) → (genotype_at (with_effort_of k bred e gs) j).total ≡ (genotype_at gs j).total
-sum_of-with_noted_cell k bred e [] j = refl
-sum_of-with_noted_cell zero bred e (g ∷ gs) zero = refl
-sum_of-with_noted_cell zero bred e (g ∷ gs) (suc j) = refl
-sum_of-with_noted_cell (suc k) bred e (g ∷ gs) zero = refl
-sum_of-with_noted_cell (suc k) bred e (g ∷ gs) (suc j) = sum_of-with_noted_cell k bred e gs j
+total-with_effort_of : (k bred : ℕ) (e : Effort) (gs : List Genotype) (j : ℕ) → (genotype_at (with_effort_of k bred e gs) j).total ≡ (genotype_at gs j).total
+total-with_effort_of k bred e [] j = refl
+total-with_effort_of zero bred e (g ∷ gs) zero = refl
+total-with_effort_of zero bred e (g ∷ gs) (suc j) = refl
+total-with_effort_of (suc k) bred e (g ∷ gs) zero = refl
+total-with_effort_of (suc k) bred e (g ∷ gs) (suc j) = total-with_effort_of k bred e gs j
 
 times_coded-with_noted_cell : (k bred : ℕ) (e : Effort) (gs : List Genotype) (code : List ℕ) → times_coded (with_effort_of k bred e gs) code ≡ times_coded gs code
 times_coded-with_noted_cell k bred e [] code = refl
@@ -57,8 +57,8 @@ is_effort true None e r h = r
 is_effort true (Some d) e r h = h
 is_effort false o e r h = h
 
-pub with_noted_cell-listed : (t k bred : ℕ) (e : Effort) (gs : List Genotype) → 1 ≤ e.ran → Listed t gs → Listed t (with_effort_of k bred e gs)
-with_noted_cell-listed t k bred e gs r l =
+pub with_effort_of-listed : (t k bred : ℕ) (e : Effort) (gs : List Genotype) → 1 ≤ e.ran → Listed t gs → Listed t (with_effort_of k bred e gs)
+with_effort_of-listed t k bred e gs r l =
     record {
       once = λ code. rw (times_coded-with_noted_cell k bred e gs code) (l.once code);
       written = all-with_noted_cell (λ (g : Genotype). IsCode g.code) k bred e gs (λ g h. h) l.written;
@@ -68,14 +68,14 @@ with_noted_cell-listed t k bred e gs r l =
           (λ g h. (is_effort (bred == 1) g.first_effort e r h.0, is_effort (bred == 2) g.second_effort e r h.1)) l.efforts;
     }
 
-pub with_noted_cell-saves : (q z save_at k bred : ℕ) (e : Effort) (gs : List Genotype) (saved : List Saving) → Saves q z save_at gs saved
+pub with_effort_of-saves : (q z save_at k bred : ℕ) (e : Effort) (gs : List Genotype) (saved : List Saving) → Saves q z save_at gs saved
     → Saves q z save_at (with_effort_of k bred e gs) saved
-with_noted_cell-saves q z a k bred e gs saved s =
+with_effort_of-saves q z a k bred e gs saved s =
     let hs : List Genotype = with_effort_of k bred e gs in
     let size : (p : ℕ) → saved_size hs saved p ≡ saved_size gs saved p = λ p. size-same gs hs saved p (λ j h. code-with_noted_cell k bred e gs j) s.known in
     record {
-      once = λ j. rw (sum_of-with_noted_cell k bred e gs j) (s.once j);
-      known = subst (λ n. All (λ x. x.genotype < n) saved) (sym (length-with_noted_cell k bred e gs)) s.known;
+      once = λ j. rw (total-with_effort_of k bred e gs j) (s.once j);
+      known = subst (λ n. All (λ x. x.genotype < n) saved) (sym (length-with_effort_of k bred e gs)) s.known;
       rising = s.rising;
       past = s.past;
       kept = s.kept;

@@ -71,12 +71,12 @@ sum_of-one_more_same k [] h = absurd (omega arith)
 sum_of-one_more_same zero (g ∷ gs) h = refl
 sum_of-one_more_same (suc k) (g ∷ gs) h = sum_of-one_more_same k gs (omega arith)
 
-pub sum_of-one_more_other : (k : ℕ) (gs : List Genotype) (j : ℕ) → j ≢ k → (genotype_at (with_one_more k gs) j).total ≡ (genotype_at gs j).total
-sum_of-one_more_other k [] j h = refl
-sum_of-one_more_other zero (g ∷ gs) zero h = absurd (h refl)
-sum_of-one_more_other zero (g ∷ gs) (suc j) h = refl
-sum_of-one_more_other (suc k) (g ∷ gs) zero h = refl
-sum_of-one_more_other (suc k) (g ∷ gs) (suc j) h = sum_of-one_more_other k gs j (λ e. h (ap (λ (n : ℕ). suc n) e))
+pub total-one_more_other : (k : ℕ) (gs : List Genotype) (j : ℕ) → j ≢ k → (genotype_at (with_one_more k gs) j).total ≡ (genotype_at gs j).total
+total-one_more_other k [] j h = refl
+total-one_more_other zero (g ∷ gs) zero h = absurd (h refl)
+total-one_more_other zero (g ∷ gs) (suc j) h = refl
+total-one_more_other (suc k) (g ∷ gs) zero h = refl
+total-one_more_other (suc k) (g ∷ gs) (suc j) h = total-one_more_other k gs j (λ e. h (ap (λ (n : ℕ). suc n) e))
 
 times_coded-with_one_more : (k : ℕ) (gs : List Genotype) (code : List ℕ) → times_coded (with_one_more k gs) code ≡ times_coded gs code
 times_coded-with_one_more k [] code = refl
@@ -211,6 +211,6 @@ with_individual-listed t gs code parent q c p l = go (genotype_number code gs) r
             coded = code-with_one_more k gs k ∙ r.1;
             codes = λ j h. code-with_one_more k gs j;
             same = sum_of-one_more_same k gs r.0;
-            other = λ j n. sum_of-one_more_other k gs j n;
+            other = λ j n. total-one_more_other k gs j n;
           },
         )

@@ -20,7 +20,7 @@ use Rattle.tierra_model.specs.Room.{room_for}
 use Rattle.tierra_model.specs.Individuals.{with_individual, genotype_number, with_one_more, with_effort_of, genotypes_at_birth}
 use Rattle.tierra_model.specs.Events.{apply_event, record_after, with_birth}
 use Rattle.tierra_model.proofs.Genotypes.{length-with_one_more, code-with_one_more, genotype_at-append}
-use Rattle.tierra_model.proofs.Efforts.{length-with_noted_cell, code-with_noted_cell}
+use Rattle.tierra_model.proofs.Efforts.{length-with_effort_of, code-with_noted_cell}
 
 -- ---- genotypes
 
@@ -55,7 +55,7 @@ parent-with_noted_cell (suc k) bred e (g ∷ gs) (suc j) = parent-with_noted_cel
 extends-with_noted_cell : (k bred : ℕ) (e : Effort) (gs : List Genotype) → Extends gs (with_effort_of k bred e gs)
 extends-with_noted_cell k bred e gs =
     record {
-      longer = omega (arith, length-with_noted_cell k bred e gs);
+      longer = omega (arith, length-with_effort_of k bred e gs);
       codes = λ j h. code-with_noted_cell k bred e gs j;
       parents = λ j h. parent-with_noted_cell k bred e gs j;
     }

@@ -99,7 +99,7 @@ CellsAgree-right : (w : World) (xs ys : List (ℕ × ℕ)) → CellsAgree (xs ++
 CellsAgree-right w [] ys h = h
 CellsAgree-right w (x ∷ xs) ys h = CellsAgree-right w xs ys h.1
 
-pub noted_back : (w0 : World) (p : ℕ) (x : SceneRun) → Agreed w0 (with_noted_cell p x) → Agreed w0 x
+pub noted_back : (w0 : World) (p : ℕ) (x : SceneRun) → Agreed w0 (with_noted_cell x p) → Agreed w0 x
 unfolding with_noted_cell
 noted_back w0 p x h = (
   elim (is_known x p) as (λ b. CellsAgree (cond b x.cells (x.cells ++ (p, slice_index x.now.soup p) ∷ [])) w0 → CellsAgree x.cells w0)
@@ -109,7 +109,7 @@ noted_back w0 p x h = (
 )
 
 -- the cell looked at is the world's
-seen : (w0 v : World) (p : ℕ) (x : SceneRun) → Moves w0 v x → Agreed w0 (with_noted_cell p x) → slice_index v.soup p ≡ slice_index x.now.soup p
+seen : (w0 v : World) (p : ℕ) (x : SceneRun) → Moves w0 v x → Agreed w0 (with_noted_cell x p) → slice_index v.soup p ≡ slice_index x.now.soup p
 unfolding with_noted_cell
 seen w0 v p x m h = go (is_known x p) refl h.0
   where
@@ -118,15 +118,15 @@ seen w0 v p x m h = go (is_known x p) refl h.0
     go true e k = m.known p e
     go false e k = m.unknown p e ∙ (CellsAgree-right w0 x.cells _ k).0
 
-noted_other : (p q : ℕ) (x : SceneRun) → (p == q) ≡ false → is_known (with_noted_cell p x) q ≡ is_known x q
+noted_other : (p q : ℕ) (x : SceneRun) → (p == q) ≡ false → is_known (with_noted_cell x p) q ≡ is_known x q
 unfolding with_noted_cell
 noted_other p q x e = grind (arith, nat_tests, list_any-append)
 
-pub noted_unknown : (p q : ℕ) (x : SceneRun) → is_known (with_noted_cell p x) q ≡ false → is_known x q ≡ false
+pub noted_unknown : (p q : ℕ) (x : SceneRun) → is_known (with_noted_cell x p) q ≡ false → is_known x q ≡ false
 unfolding with_noted_cell
 noted_unknown p q x e = grind (arith, nat_tests, list_any-append)
 
-noted_moves : (w0 v : World) (p : ℕ) (x : SceneRun) → Moves w0 v x → Agreed w0 (with_noted_cell p x) → Moves w0 v (with_noted_cell p x)
+noted_moves : (w0 v : World) (p : ℕ) (x : SceneRun) → Moves w0 v x → Agreed w0 (with_noted_cell x p) → Moves w0 v (with_noted_cell x p)
 unfolding with_noted_cell
 noted_moves w0 v p x m h =
     record {
@@ -153,14 +153,14 @@ noted_moves w0 v p x m h =
     }
 
 -- what an unknown cell holds is what it held at the start
-noted_value : (w0 v : World) (p : ℕ) (x : SceneRun) (l : List (ℕ × ℕ)) (start : World) → start ≡ w0 → Moves w0 v x → Agreed w0 (with_noted_cell p x)
+noted_value : (w0 v : World) (p : ℕ) (x : SceneRun) (l : List (ℕ × ℕ)) (start : World) → start ≡ w0 → Moves w0 v x → Agreed w0 (with_noted_cell x p)
     → (b : Bool) → is_known x p ≡ b
     → cond b l (l ++ (p, slice_index start.soup p) ∷ []) ≡ cond b l (l ++ (p, slice_index x.now.soup p) ∷ [])
 noted_value w0 v p x l start e m h true k = refl
 noted_value w0 v p x l start e m h false k =
     ap (λ (value : ℕ). l ++ (p, value) ∷ []) (ap (λ (u : World). slice_index u.soup p) e ∙ sym (m.unknown p k) ∙ seen w0 v p x m h)
 
-noted_notes : (w0 : World) (p : ℕ) (x : SceneRun) (w : Log) → Follows w0 x w → Agreed w0 (with_noted_cell p x) → Notes w0 (with_noted_cell p x) (log_machine.look p w)
+noted_notes : (w0 : World) (p : ℕ) (x : SceneRun) (w : Log) → Follows w0 x w → Agreed w0 (with_noted_cell x p) → Notes w0 (with_noted_cell x p) (log_machine.look w p)
 unfolding with_noted_cell
 noted_notes w0 p x w f h =
     let n = f.notes in
@@ -173,8 +173,8 @@ noted_notes w0 p x w f h =
       events = n.events;
     }
 
-look : (w0 : World) (p : ℕ) (x : SceneRun) (w : Log) → Follows w0 x w → Agreed w0 (with_noted_cell p x)
-    → (slice_index w.now.soup p ≡ slice_index x.now.soup p) × Follows w0 (with_noted_cell p x) (log_machine.look p w)
+look : (w0 : World) (p : ℕ) (x : SceneRun) (w : Log) → Follows w0 x w → Agreed w0 (with_noted_cell x p)
+    → (slice_index w.now.soup p ≡ slice_index x.now.soup p) × Follows w0 (with_noted_cell x p) (log_machine.look w p)
 unfolding with_noted_cell
 look w0 p x w f h = (
   ap (λ (u : World). slice_index u.soup p) f.same ∙ seen w0 f.before p x f.moves h,
@@ -183,7 +183,7 @@ look w0 p x w f h = (
 
 walk_back : {A : Type 0} (s : Settings) (w0 : World) (t : Look A) (x : SceneRun) → Agreed w0 (walk scene_machine s t x).0 → Agreed w0 x
 walk_back s w0 (Answer a) x h = h
-walk_back s w0 (LookAt p next) x h = noted_back w0 p x (walk_back s w0 (next (slice_index x.now.soup p)) (with_noted_cell p x) h)
+walk_back s w0 (LookAt p next) x h = noted_back w0 p x (walk_back s w0 (next (slice_index x.now.soup p)) (with_noted_cell x p) h)
 
 -- a walk in the scene and one in the world give the same answer
 walk_same : {A : Type 0} (s : Settings) (w0 : World) (t : Look A) (x : SceneRun) (w : Log)
@@ -191,12 +191,12 @@ walk_same : {A : Type 0} (s : Settings) (w0 : World) (t : Look A) (x : SceneRun)
     → Follows w0 (walk scene_machine s t x).0 (walk log_machine s t w).0 × ((walk log_machine s t w).1 ≡ (walk scene_machine s t x).1)
 walk_same s w0 (Answer a) x w f h = (f, refl)
 walk_same s w0 (LookAt p next) x w f h =
-    let back = walk_back s w0 (next (slice_index x.now.soup p)) (with_noted_cell p x) h in
+    let back = walk_back s w0 (next (slice_index x.now.soup p)) (with_noted_cell x p) h in
     let l = look w0 p x w f back in
-    let u : Log = log_machine.look p w in
+    let u : Log = log_machine.look w p in
     subst (λ v. Follows w0 (walk scene_machine s (LookAt p next) x).0 (walk log_machine s (next v) u).0
     × ((walk log_machine s (next v) u).1 ≡ (walk scene_machine s (LookAt p next) x).1))
-    (sym l.0) (walk_same s w0 (next (slice_index x.now.soup p)) (with_noted_cell p x) u l.1 h)
+    (sym l.0) (walk_same s w0 (next (slice_index x.now.soup p)) (with_noted_cell x p) u l.1 h)
 
 -- ---- a record put in
 
@@ -604,7 +604,7 @@ instruction_back w0 s draw i x h =
 walk_now : {A : Type 0} (s : Settings) (t : Look A) (x : SceneRun) → (walk scene_machine s t x).0.now ≡ x.now
 unfolding with_noted_cell
 walk_now s (Answer a) x = refl
-walk_now s (LookAt p next) x = walk_now s (next (slice_index x.now.soup p)) (with_noted_cell p x)
+walk_now s (LookAt p next) x = walk_now s (next (slice_index x.now.soup p)) (with_noted_cell x p)
 
 codes_of : (w0 : World) (x : SceneRun) (w : Log) → Follows w0 x w → (p : ℕ) → slice_index w.now.soup p < 32
 codes_of w0 x w f p = subst (λ (u : World). slice_index u.soup p < 32) (sym f.same) (f.moves.codes p)
@@ -612,7 +612,7 @@ codes_of w0 x w f p = subst (λ (u : World). slice_index u.soup p < 32) (sym f.s
 always-logged : {A : Type 0} (P : A → Type 0) (s : Settings) (t : Look A) (w : Log) → ((p : ℕ) → slice_index w.now.soup p < 32)
     → Always P t → P (walk log_machine s t w).1
 always-logged P s (Answer a) w b h = h
-always-logged P s (LookAt p next) w b h = always-logged P s (next (slice_index w.now.soup p)) (log_machine.look p w) b (h (slice_index w.now.soup p) (b p))
+always-logged P s (LookAt p next) w b h = always-logged P s (next (slice_index w.now.soup p)) (log_machine.look w p) b (h (slice_index w.now.soup p) (b p))
 
 settle_same : (w0 : World) (t : Look Outcome) (x : SceneRun) (w : Log) → Always (Keeps w0.settings x.now.front) t → Follows w0 x w
     → Agreed w0 (settle scene_machine w0.settings (walk scene_machine w0.settings t x))
@@ -666,11 +666,11 @@ flip_same : (w0 : World) (o : Option (ℕ × ℕ)) (x : SceneRun) (w : Log) → 
 flip_same w0 None x w b f h = f
 flip_same w0 (Some c) x w b f h =
     let l = look w0 c.0 x w f h in
-    let u : Log = log_machine.look c.0 w in
-    let g : Follows w0 (with_noted_cell c.0 x) u = l.1 in
+    let u : Log = log_machine.look w c.0 in
+    let g : Follows w0 (with_noted_cell x c.0) u = l.1 in
     let v : ℕ = slice_index x.now.soup c.0 in
-    subst (λ a. Follows w0 (told (with_noted_cell c.0 x) (event.Write c.0 (flip_bit v (Some c.1)))) (done u (event.Write c.0 (flip_bit a (Some c.1))))) (sym l.0)
-    (tell w0 (with_noted_cell c.0 x) u (event.Write c.0 (flip_bit v (Some c.1))) g (
+    subst (λ a. Follows w0 (told (with_noted_cell x c.0) (event.Write c.0 (flip_bit v (Some c.1)))) (done u (event.Write c.0 (flip_bit a (Some c.1))))) (sym l.0)
+    (tell w0 (with_noted_cell x c.0) u (event.Write c.0 (flip_bit v (Some c.1))) g (
       subst (λ st. c.0 < st.soup_size) (sym g.moves.settings) b.0,
       flipped_below v (Some c.1) (subst (λ u. u < 32) l.0 (codes_of w0 x w f c.0)) b.1,
     ) tt)

@@ -62,11 +62,11 @@ perform-now s act.Divide l = refl
 
 walk-now : {A : Type 0} (s : Settings) (t : Look A) (l : Log) → (walk log_machine s t l).0.now ≡ (walk world_machine s t l.now).0
 walk-now s (Answer a) l = refl
-walk-now s (LookAt p next) l = walk-now s (next (slice_index l.now.soup p)) (log_machine.look p l)
+walk-now s (LookAt p next) l = walk-now s (next (slice_index l.now.soup p)) (log_machine.look l p)
 
 walk-answer : {A : Type 0} (s : Settings) (t : Look A) (l : Log) → (walk log_machine s t l).1 ≡ (walk world_machine s t l.now).1
 walk-answer s (Answer a) l = refl
-walk-answer s (LookAt p next) l = walk-answer s (next (slice_index l.now.soup p)) (log_machine.look p l)
+walk-answer s (LookAt p next) l = walk-answer s (next (slice_index l.now.soup p)) (log_machine.look l p)
 
 instruction-now : (s : Settings) (draw : ℕ → ℕ) (i : ℕ) (l : Log) → (instruction log_machine s draw i l).now ≡ instruction world_machine s draw i l.now
 unfolding instruction

@@ -38,7 +38,7 @@ cells-push : (w : World) (xs : List (ℕ × ℕ)) (p v : ℕ) → slice_index w.
 cells-push w [] p v e h = (e, tt)
 cells-push w (c ∷ cs) p v e h = (h.0, cells-push w cs p v e h.1)
 
-own-with_noted_cell : (w : World) (p : ℕ) (x : SceneRun) → Own w x → Own w (with_noted_cell p x)
+own-with_noted_cell : (w : World) (p : ℕ) (x : SceneRun) → Own w x → Own w (with_noted_cell x p)
 unfolding with_noted_cell
 own-with_noted_cell w p x o =
     record { start = o.start; unknown = λ q k. o.unknown q (noted_unknown p q x k); cells = go (is_known x p) refl }
@@ -102,7 +102,7 @@ performs s act.Divide w u g =
 
 walked : {A : Type 0} (s : Settings) (t : Look A) (w : World) (u : SceneRun) → Own w u → Own w (walk scene_machine s t u).0
 walked s (Answer a) w u g = g
-walked s (LookAt p next) w u g = walked s (next (slice_index u.now.soup p)) w (with_noted_cell p u) (own-with_noted_cell w p u g)
+walked s (LookAt p next) w u g = walked s (next (slice_index u.now.soup p)) w (with_noted_cell u p) (own-with_noted_cell w p u g)
 
 instructs : (s : Settings) (draw : ℕ → ℕ) (i : ℕ) (w : World) (u : SceneRun) → Own w u → Own w (instruction scene_machine s draw i u)
 unfolding instruction
@@ -133,7 +133,7 @@ disturbs s true w u g =
 flips : (s : Settings) (o : Option (ℕ × ℕ)) (w : World) (u : SceneRun) → Own w u → Own w (flip scene_machine s o u)
 flips s None w u g = g
 flips s (Some c) w u g =
-    tell w (with_noted_cell c.0 u) (event.Write c.0 (flip_bit (slice_index u.now.soup c.0) (Some c.1))) (own-with_noted_cell w c.0 u g)
+    tell w (with_noted_cell u c.0) (event.Write c.0 (flip_bit (slice_index u.now.soup c.0) (Some c.1))) (own-with_noted_cell w c.0 u g)
 
 own-run : (s : Settings) (q k : ℕ) (w : World) (x : SceneRun) → Own w x → Own w (run scene_machine s q k x)
 unfolding run

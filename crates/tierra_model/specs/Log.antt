@@ -22,8 +22,8 @@ pub record Log : Type 0 where
   pub events : List Event
 
 -- A cell is noted once, with what it held at the start, and not where this quantum wrote it before.
-abbrev pub with_logged_cell : ℕ → Log → Log
-with_logged_cell p x =
+abbrev pub with_logged_cell : Log → ℕ → Log
+with_logged_cell x p =
     record x {
       cells = (if is_noted x.cells p || list_any (writes p) x.events then x.cells else x.cells ++ (p, slice_index x.start.soup p) ∷ []);
     }

@@ -6,7 +6,7 @@ use Rattle.tierra_model.specs.declared.events.Event.{Event}
 use Rattle.tierra_model.specs.declared.parameters.Settings.{Settings}
 use Rattle.tierra_model.specs.declared.events.Act.TheVariants as act
 use Rattle.tierra_model.specs.declared.events.Event.TheVariants as event
-use Rattle.tierra_model.specs.Look.{Answer, Look, LookAt}
+use Rattle.tierra_model.specs.Look.{Look, pass}
 use Rattle.tierra_model.specs.Draw.{back_flip, word}
 use Rattle.tierra_model.specs.Queue.{number_of_others, place_of_first_other}
 use Rattle.tierra_model.specs.Step.{Outcome, flip_bit, step}
@@ -21,7 +21,7 @@ pub record Machine (S : Type 0) : Type 0 where
   pub put : Creature → S → S
   -- what a cell holds, and what a look at it leaves
   pub cell : S → ℕ → ℕ
-  pub look : ℕ → S → S
+  pub look : S → ℕ → S
   -- whether a cell is owned, and what asking for free cells leaves
   pub owned : S → ℕ → Bool
   pub ask_free : S → S
@@ -39,8 +39,7 @@ is_disturbed (suc n) q = q % suc n == 0
 module _ {S : Type 0} (P : Machine S) (s : Settings) where
   -- the looks of a step, one after another
   abbrev pub walk : {A : Type 0} → Look A → S → S × A
-  walk (Answer a) x = (x, a)
-  walk (LookAt p next) x = walk (next (P.cell x p)) (P.look p x)
+  walk = pass P.cell P.look
 
   -- ---- mal
 
@@ -98,7 +97,7 @@ module _ {S : Type 0} (P : Machine S) (s : Settings) where
 
   abbrev pub flip : Option (ℕ × ℕ) → S → S
   flip None x = x
-  flip (Some c) x = P.apply (P.look c.0 x) (event.Write c.0 (flip_bit (P.cell x c.0) (Some c.1)))
+  flip (Some c) x = P.apply (P.look x c.0) (event.Write c.0 (flip_bit (P.cell x c.0) (Some c.1)))
 
   -- k times the first creature of the reaper list other than the one that runs dies, while there is one
   abbrev pub reap_times : ℕ → S → S
@@ -130,7 +129,7 @@ world_machine =
       front = front;
       put = put;
       cell = λ w p. slice_index w.soup p;
-      look = λ p w. w;
+      look = λ w p. w;
       owned = λ w p. is_owned w.living p;
       ask_free = λ w. w;
       reaper = λ w. w.reaper;
