@@ -1,4 +1,4 @@
--- Worked rows, computed: the ancestor divides.
+-- Worked examples, computed: the ancestor divides.
 use Rattle.std.proofs.Common.{◌≡◌, lit≤, [], ◌∷◌, refl}
 use Rattle.std.specs.Prelude.{Some, None}
 use Rattle.tierra_model.specs.Ring.{address}
@@ -12,19 +12,19 @@ use Rattle.tierra_model.specs.Events.{apply_event}
 use Rattle.tierra_model.specs.Serial.{start, serial}
 use Rattle.tierra_model.proofs.MalRows.{alone}
 
-pub row3 : (front (serial (alone 400 (lit≤ tt, lit≤ tt)) 33)).ip ≡ 61
+pub after_33 : (front (serial (alone 400 (lit≤ tt, lit≤ tt)) 33)).ip ≡ 61
 unfolding serial start quantum run instructions instruction step apply_event op_of address with_individual template is_complement candidates found_by read_template compare try_each search_from search_for
-row3 = refl
+after_33 = refl
 
-pub row4 : (serial (alone 400 (lit≤ tt, lit≤ tt)) 34).births ≡ 1
+pub after_34 : (serial (alone 400 (lit≤ tt, lit≤ tt)) 34).births ≡ 1
 unfolding serial start quantum run instructions instruction step apply_event op_of address with_individual template is_complement candidates found_by read_template compare try_each search_from search_for
-row4 = refl
+after_34 = refl
 
-pub row4-saved : (serial (alone 400 (lit≤ tt, lit≤ tt)) 34).saved
+pub after_34-saved : (serial (alone 400 (lit≤ tt, lit≤ tt)) 34).saved
     ≡ (record { genotype = 0; quantum = 34; first_effort = Some (record { ran = 839; moved = 80 }); second_effort = None }) ∷ []
 unfolding serial start quantum run instructions instruction step apply_event op_of address with_individual template is_complement candidates found_by read_template compare try_each search_from search_for
-row4-saved = refl
+after_34-saved = refl
 
-pub row5 : (front (serial (alone 1000 (lit≤ tt, lit≤ tt)) 100)).ip ≡ 141
+pub after_100 : (front (serial (alone 1000 (lit≤ tt, lit≤ tt)) 100)).ip ≡ 141
 unfolding serial start quantum run instructions instruction step apply_event op_of address with_individual template is_complement candidates found_by read_template compare try_each search_from search_for
-row5 = refl
+after_100 = refl

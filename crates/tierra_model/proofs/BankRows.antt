@@ -1,4 +1,4 @@
--- Worked rows, computed: the genebank of three ancestors, and a legal history.
+-- Worked examples, computed: the genebank of three ancestors, and a legal history.
 use Rattle.std.proofs.Common.{◌≡◌, ℕ, zero, suc, ◌+◌, ◌<◌, ◌≤◌, lit≤, Bool, true, false, List, [], ◌∷◌, refl, sym, ◌∙◌, ap, arith, inr}
 use Rattle.std.specs.Prelude.{Some, None, All, map, length, nat_lt, ◌&&◌, slice_set}
 use Rattle.tierra_model.specs.declared.genebank.Saved.{Saved}
@@ -26,7 +26,7 @@ use Rattle.tierra_model.proofs.Banks.{bank_is_groups}
 use Rattle.tierra_model.proofs.SearchRows.{defaults, two}
 use Rattle.tierra_model.proofs.MalRows.{ancestor}
 
--- row 20, in a smaller soup: the second ends with `inc_a`, the third with `dec_c`
+-- three ancestors in a small soup: the second ends with `inc_a`, the third with `dec_c`
 abbrev pub three : SetupFields
 three =
     record {
@@ -51,7 +51,7 @@ pub three-from : groups_from (serial three 102) 2 ≡ third_group 102 2 (slice_s
 unfolding serial start quantum run instructions instruction step apply_event op_of address with_individual template is_complement candidates found_by read_template compare try_each search_from search_for
 three-from = refl
 
--- R16.1, in a smaller soup
+-- saved at the third individual
 abbrev pub late : SetupFields
 late = record { settings = record (defaults 1000 (lit≤ tt, lit≤ tt)) { save_at = 3; saving = (lit≤ tt, lit≤ tt) }; creatures = record { at = 0; code = ancestor } ∷ [] }
 

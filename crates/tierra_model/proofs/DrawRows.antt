@@ -1,4 +1,4 @@
--- Worked rows, computed: draws, and a finding that stands.
+-- Worked examples, computed: draws, and a finding that stands.
 use Rattle.std.proofs.Common.{◌≡◌, [], ◌∷◌, refl, pos, replicate, lit≤}
 use Rattle.std.specs.Prelude.{None}
 use Rattle.rand_chacha.specs.Block.{block_word, double_rounds, diagonal_round, quarter_round, column_round}

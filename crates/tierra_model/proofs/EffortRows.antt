@@ -1,4 +1,4 @@
--- Worked rows, computed: efforts, and a disturbance.
+-- Worked examples, computed: efforts, and a disturbance.
 use Rattle.std.proofs.Common.{◌≡◌, lit≤, [], ◌∷◌, refl}
 use Rattle.std.specs.Prelude.{Some, None, map}
 use Rattle.tierra_model.specs.declared.creatures.Creature.{Creature}
@@ -18,7 +18,7 @@ use Rattle.tierra_model.specs.declared.events.Event.TheVariants as event
 use Rattle.tierra_model.proofs.SearchRows.{defaults}
 use Rattle.tierra_model.proofs.MalRows.{alone}
 
--- R15.2, in a smaller soup
+-- the ancestor's first two daughters, in a small soup
 pub second-none : (genotype_at (serial (alone 1000 (lit≤ tt, lit≤ tt)) 99).genotypes 0).second_effort ≡ None
 unfolding serial start quantum run instructions instruction step apply_event op_of address with_individual template is_complement candidates found_by read_template compare try_each search_from search_for
 second-none = refl
@@ -31,7 +31,7 @@ pub second-effort : (genotype_at (serial (alone 1000 (lit≤ tt, lit≤ tt)) 100
 unfolding serial start quantum run instructions instruction step apply_event op_of address with_individual template is_complement candidates found_by read_template compare try_each search_from search_for
 second-effort = refl
 
--- R15.1: `inc_a`, `inc_b`, `inc_c` and `dec_c`, of whom half die in quantum 2
+-- `inc_a`, `inc_b`, `inc_c` and `dec_c`, of whom half die in quantum 2
 abbrev pub four : SetupFields
 four =
     record {

@@ -1,4 +1,4 @@
--- Worked rows, computed: the default soup.
+-- Worked examples, computed: the default soup.
 use Rattle.std.proofs.Common.{◌≡◌, lit≤, refl}
 use Rattle.tierra_model.specs.Ring.{address}
 use Rattle.tierra_model.specs.Table.{op_of}

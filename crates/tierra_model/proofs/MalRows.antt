@@ -1,4 +1,4 @@
--- Worked rows, computed: a mal that reaps.
+-- Worked examples, computed: a mal that reaps.
 use Rattle.std.proofs.Common.{◌≡◌, ℕ, ◌≤◌, lit≤, List, [], ◌∷◌, refl, pos}
 use Rattle.tierra_model.specs.declared.parameters.Settings.{Settings}
 use Rattle.tierra_model.specs.declared.events.Event.TheVariants as event

@@ -1,4 +1,4 @@
--- Worked rows, computed: searches, and the two jobs of row 17.
+-- Worked examples, computed: searches, and what the two creatures of a small soup read and do.
 use Rattle.std.proofs.Common.{◌≡◌, ℕ, zero, suc, ◌+◌, ◌≤◌, lit≤, false, List, [], ◌∷◌, ◌++◌, refl, replicate}
 use Rattle.std.specs.Prelude.{slice_index, slice_set, None}
 use Rattle.tierra_model.specs.declared.parameters.Settings.{Settings}

@@ -1,4 +1,4 @@
--- Worked rows: setups, whose worlds are sound, and a first first_difference.
+-- Worked examples: setups, whose worlds are sound, and a first first_difference.
 use Rattle.std.proofs.Common.{ℕ, ◌+◌, ◌<◌, ◌≤◌, lit≤, [], ◌∷◌, arith}
 use Rattle.std.specs.Prelude.{All, length}
 use Rattle.std.proofs.lemmas.Bool.Decides.{nat_tests}

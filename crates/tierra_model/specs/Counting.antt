@@ -1,4 +1,4 @@
--- Counting.
+-- Counting and adding up along a list.
 use Rattle.std.specs.Prelude.{Bool, List, [], false, true, ℕ, ◌+◌, ◌==◌, ◌∷◌}
 
 abbrev pub one_if : Bool → ℕ

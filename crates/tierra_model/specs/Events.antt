@@ -1,4 +1,4 @@
--- Events.
+-- What each event does to the running creature's record, and to a world.
 use Rattle.std.specs.Prelude.{Bool, List, None, Option, Some, [], filter, not, pos, slice_index, slice_range, slice_set, ℕ, ◌++◌, ◌+◌, ◌==◌, ◌∷◌}
 use Rattle.tierra_model.specs.declared.creatures.Block.{Block}
 use Rattle.tierra_model.specs.declared.creatures.Creature.{Creature}
@@ -9,6 +9,7 @@ use Rattle.tierra_model.specs.Living.{newborn, one_of, without}
 use Rattle.tierra_model.specs.World.{Genotype, World, front, put}
 use Rattle.tierra_model.specs.Individuals.{genotypes_at_birth, savings_after, with_individual}
 
+-- the record of the creature that runs, after an event of its own
 abbrev pub record_after : Event → Creature → Creature
 record_after (event.Write at value) c = c
 record_after event.Err c = record c { flag = 1; errors = c.errors + 1 }
@@ -25,7 +26,7 @@ record_after (event.Divide ran moved) c = record c { daughter = None; moved = 0;
 abbrev pub has_id : Creature → ℕ → Bool
 has_id c id = id == c.id
 
--- A creature of the birth number next comes into the world, at the bottom and at the back. Its genotype is
+-- A creature with the next birth number comes into the world, at the bottom and at the back. Its genotype is
 -- counted among those given.
 abbrev pub with_creature : List Genotype → Block → List ℕ → Option ℕ → ℕ → World → World
 with_creature known own code parent q w =
@@ -49,7 +50,7 @@ with_death id w =
       deaths = w.deaths + 1;
     }
 
--- the daughter block becomes a creature, whose mother has the genotype
+-- The daughter block becomes a creature, whose mother has the genotype. A divide is possible only with a daughter block.
 abbrev pub with_birth : List Genotype → Option Block → ℕ → World → World
 with_birth known None mother w = w
 with_birth known (Some b) mother w =

@@ -1,4 +1,4 @@
--- Findings.
+-- Findings: what a quantum that ran alone found, and when it is that of a world.
 use Rattle.std.specs.Prelude.{List, None, Option, Some, [], replicate, slice_index, slice_set, unwrap_or, ℕ, ◌+◌, ◌-◌, ◌∷◌, ◌≡◌, ◌≤◌}
 use Rattle.tierra_model.specs.declared.creatures.Creature.{Creature}
 use Rattle.tierra_model.specs.declared.events.Event.{Event}
@@ -21,11 +21,12 @@ pub record Finding : Type 0 where
   pub events : List Event
   pub after : Creature
 
--- a soup of cells 0 but for those seen
+-- the soup with what was seen in each cell
 abbrev pub seen_soup : List (ℕ × ℕ) → List ℕ → List ℕ
 seen_soup [] soup = soup
 seen_soup (c ∷ cs) soup = seen_soup cs (slice_set soup c.0 c.1)
 
+-- the scene that a finding tells: what it did not read is empty
 abbrev pub scene_of_finding : Finding → Scene
 scene_of_finding f =
     record {
@@ -37,6 +38,7 @@ scene_of_finding f =
       yard = unwrap_or f.reads.yard [];
     }
 
+-- what the scene touches, its events and its record after are those of the finding
 pub record Stands (f : Finding) : Type 0 where
   pub reads : reads_of (run_in_scene (scene_of_finding f)) ≡ f.reads
   pub events : (run_in_scene (scene_of_finding f)).events ≡ f.events
@@ -52,6 +54,7 @@ abbrev pub SameIfSome : {A : Type 0} → Option A → A → Type 0
 SameIfSome None a = Unit {0}
 SameIfSome (Some b) a = b ≡ a
 
+-- what was read is so in the world, and the record is that of the creature at its front
 pub record Agrees (reads : Reads) (c : Creature) (w : World) : Type 0 where
   pub front : front w ≡ c
   pub cells : CellsAgree reads.cells w

@@ -1,4 +1,4 @@
--- FreeList.
+-- The free list: the free cells as runs.
 use Rattle.std.specs.List.{list_any}
 use Rattle.std.specs.Prelude.{Bool, List, [], if◌then◌else◌, not, suc, zero, ℕ, ◌+◌, ◌-◌, ◌∷◌}
 use Rattle.tierra_model.specs.declared.creatures.Block.{Block}
@@ -23,6 +23,6 @@ runs_of n test = runs_from test 0 0 n
 abbrev pub is_in_some : List Block → ℕ → Bool
 is_in_some blocks p = list_any (λ b. is_in b p) blocks
 
--- the free list and the yard of a world
+-- the free list of a world
 abbrev pub free_list : World → List Block
 free_list w = runs_of w.settings.soup_size (λ p. not (is_owned w.living p))

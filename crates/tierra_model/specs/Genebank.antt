@@ -1,4 +1,4 @@
--- Genebank.
+-- Names of genotypes, and the genebank of a setup.
 use Rattle.std.specs.Prelude.{List, None, [], drop, filter, if◌then◌else◌, length, map, option_map, suc, zero, ℕ, ◌++◌, ◌+◌, ◌==◌, ◌∷◌, ◌≡◌, ◌⊎◌}
 use Rattle.tierra_model.specs.declared.genebank.Saved.{Saved}
 use Rattle.tierra_model.specs.declared.genebank.Name.{Name}
@@ -20,7 +20,7 @@ name_of genotypes k =
     let size = length (genotype_at genotypes k).code in
     record { size = size; rank = number_before size genotypes k }
 
--- with the efforts that were kept at the saving
+-- what is kept of a saved genotype, with the efforts that it had then
 abbrev pub saved_of : List Genotype → Saving → Saved
 saved_of genotypes s =
     let g = genotype_at genotypes s.genotype in
@@ -46,6 +46,7 @@ unfoldable pub bank : SetupFields → ℕ → List GroupFields
 bank setup zero = []
 bank setup (suc q) = bank setup q ++ group_if_any q (saved_in q (serial setup q))
 
+-- the groups of the quanta below m, read off one world
 abbrev pub groups_below : World → ℕ → List GroupFields
 groups_below w zero = []
 groups_below w (suc q) = groups_below w q ++ group_if_any q (saved_in q w)
@@ -53,14 +54,14 @@ groups_below w (suc q) = groups_below w q ++ group_if_any q (saved_in q w)
 abbrev pub groups_of : World → List GroupFields
 groups_of w = groups_below w (w.quanta + 1)
 
--- from place k on
+-- those from place k on
 abbrev pub groups_from : World → ℕ → List GroupFields
 groups_from w k = drop k (groups_of w)
 
 abbrev pub without_efforts : Saved → Saved
 without_efforts s = record s { first = None; second = None }
 
--- a run's group as one of before has it
+-- a run's group as a bank of form One has it
 abbrev pub in_form_one : GroupFields → GroupFields
 in_form_one g = record { quantum = g.quantum; form = form.One; saved = map without_efforts g.saved }
 

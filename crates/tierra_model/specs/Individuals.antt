@@ -1,10 +1,11 @@
--- Individuals.
+-- Genotypes as individuals are born: numbers, totals, savings and efforts.
 use Rattle.std.specs.Prelude.{List, None, Option, Some, [], if◌then◌else◌, length, option_map, suc, zero, ℕ, ◌++◌, ◌+◌, ◌==◌, ◌∷◌}
 use Rattle.std.specs.Str.{bytes_eq}
 use Rattle.tierra_model.specs.declared.creatures.Creature.{Creature}
 use Rattle.tierra_model.specs.declared.creatures.Effort.{Effort}
 use Rattle.tierra_model.specs.World.{Genotype, Saving, genotype_at}
 
+-- the number of the genotype with the code, if there is one
 abbrev pub genotype_number : List ℕ → List Genotype → Option ℕ
 genotype_number code [] = None
 genotype_number code (g ∷ gs) = if bytes_eq g.code code then Some 0 else option_map suc (genotype_number code gs)
@@ -31,6 +32,7 @@ savings_after save_at genotypes k q saved =
     saved ++ (record { genotype = k; quantum = q; first_effort = g.first_effort; second_effort = g.second_effort }) ∷ []
     else saved
 
+-- the effort that is there, and where there is none this one
 abbrev pub first_of_both : Option Effort → Effort → Option Effort
 first_of_both None e = Some e
 first_of_both (Some d) e = Some d

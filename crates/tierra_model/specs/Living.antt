@@ -1,10 +1,10 @@
--- Living.
+-- The living: a list of creatures, each under its birth number.
 use Rattle.std.specs.Prelude.{List, None, filter, find, if◌then◌else◌, map, not, pos, replicate, unwrap_or, ℕ, ◌==◌}
 use Rattle.tierra_model.specs.declared.creatures.Block.{Block}
 use Rattle.tierra_model.specs.declared.creatures.Creature.{Creature}
 use Rattle.tierra_model.specs.Blocks.{no_block}
 
--- a newborn
+-- a newborn with its birth number, its block and its genotype
 abbrev pub newborn : ℕ → Block → ℕ → Creature
 newborn id own genotype =
     record {
@@ -26,10 +26,12 @@ newborn id own genotype =
       bred = 0;
     }
 
--- number 0 is nobody's: what is asked of a creature that does not live is asked of this one
+-- Number 0 is nobody's: what is asked of a creature that does not live is asked of this one. In a sound world
+-- both lists hold the living alone, so it is never met there.
 abbrev pub nobody : Creature
 nobody = newborn 0 no_block 0
 
+-- the creature with the birth number
 abbrev pub one_of : List Creature → ℕ → Creature
 one_of living id = unwrap_or (find (λ c. c.id == id) living) nobody
 

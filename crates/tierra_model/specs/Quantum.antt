@@ -1,4 +1,4 @@
--- A quantum, on a world or on a scene.
+-- A quantum, on a world or on what stands for one.
 use Rattle.std.specs.Prelude.{Bool, List, None, Option, Some, false, if◌then◌else◌, length, max, min, slice_index, suc, true, zero, ℕ, ◌%◌, ◌*◌, ◌+◌, ◌/◌, ◌==◌}
 use Rattle.tierra_model.specs.declared.events.Act.{Act}
 use Rattle.tierra_model.specs.declared.creatures.Creature.{Creature}
@@ -51,10 +51,11 @@ module _ {S : Type 0} (P : Machine S) (s : Settings) where
   abbrev pub take_block : ℕ → ℕ → S → S
   take_block size at x = P.apply (P.apply x (event.Mal at size)) event.Good
 
+  -- the place of the first creature of the reaper list other than the caller
   abbrev pub victim : S → Option ℕ
   victim x = place_of_first_other (P.front x).id (P.reaper x)
 
-  -- the first creature of the reaper list other than the caller dies
+  -- that creature dies
   abbrev pub reap_at : Option ℕ → S → S
   reap_at None x = x
   reap_at (Some k) x = P.apply x (event.Reap k)
@@ -70,13 +71,15 @@ module _ {S : Type 0} (P : Machine S) (s : Settings) where
   make_room size (suc left) x =
       elim (room_for s (P.owned x) size) [ Some at ↦ take_block size at x | None ↦ make_room size left (reap x) ]
 
+  -- a mal whose request passed: the daughter block is given up, room is made, the block is taken
   abbrev pub mal : ℕ → S → S
   mal size x =
       let y = give_up (P.ask_free x) in
       make_room size (number_of_others (P.front y).id (P.reaper y)) y
 
-  -- ---- one instruction, and a instructions of them
+  -- ---- one instruction, and a slice of them
 
+  -- what is left to do after a step
   abbrev pub perform : Act → S → S
   perform act.Plain x = x
   perform (act.Wrote at value) x = P.apply x (event.Write at value)
@@ -84,6 +87,7 @@ module _ {S : Type 0} (P : Machine S) (s : Settings) where
   perform (act.Mal size) x = mal size x
   perform act.Divide x = P.apply (P.apply x event.Good) (event.Divide (P.front x).ran (P.front x).moved)
 
+  -- the record of a step is put in, and its act done
   abbrev pub settle : S × Outcome → S
   settle r = perform r.1.1 (P.put r.1.0 r.0)
 
@@ -95,6 +99,7 @@ module _ {S : Type 0} (P : Machine S) (s : Settings) where
   instructions draw zero i x = x
   instructions draw (suc k) i x = instructions draw k (i + 1) (instruction draw i x)
 
+  -- the background flip of a cell's bit
   abbrev pub flip : Option (ℕ × ℕ) → S → S
   flip None x = x
   flip (Some c) x = P.apply (P.look x c.0) (event.Write c.0 (flip_bit (P.cell x c.0) (Some c.1)))
@@ -122,7 +127,7 @@ slice_of size s =
 
 -- ---- in a world
 
--- A world sees its own soup, blocks and lists, and nothing is noted.
+-- A world sees its own soup, blocks and lists, and nothing is noted of what it looks at.
 abbrev pub world_machine : Machine World
 world_machine =
     record {
@@ -137,6 +142,7 @@ world_machine =
       apply = apply_event;
     }
 
+-- The next quantum of a world: the slice is fixed when it begins.
 unfoldable pub quantum : World → World
 quantum w =
     turn_end (run world_machine w.settings (w.quanta + 1) (slice_of (front w).own.size w.settings) w)

@@ -1,4 +1,4 @@
--- Reads.
+-- What a quantum reads.
 use Rattle.std.specs.List.{list_any}
 use Rattle.std.specs.Prelude.{Bool, List, None, Option, Some, [], false, if◌then◌else◌, true, ℕ, ◌++◌, ◌-◌, ◌==◌, ◌∷◌}
 use Rattle.tierra_model.specs.declared.creatures.Block.{Block}
@@ -7,6 +7,7 @@ use Rattle.tierra_model.specs.declared.creatures.Standing.{Standing}
 use Rattle.tierra_model.specs.declared.events.Event.TheVariants as event
 use Rattle.tierra_model.specs.World.{World}
 
+-- the cells in the order of reading, each with what it held; the free list and the yard, where they were read
 pub record Reads : Type 0 where
   pub cells : List (ℕ × ℕ)
   pub free : Option (List Block)
@@ -15,6 +16,7 @@ pub record Reads : Type 0 where
 abbrev pub is_noted : List (ℕ × ℕ) → ℕ → Bool
 is_noted cells p = list_any (λ c. c.0 == p) cells
 
+-- the event writes the cell
 abbrev pub writes : ℕ → Event → Bool
 writes p (event.Write at value) = at == p
 writes p event.Err = false
@@ -27,10 +29,11 @@ writes p (event.Divide ran moved) = false
 abbrev pub some_if : {A : Type 0} → Bool → A → Option A
 some_if b a = elim b [ true ↦ Some a | false ↦ None ]
 
--- the world with the creature at the front, before quantum q
+-- the list turned round so that the number is first; seen are the numbers that were before it
 abbrev pub turned_to : ℕ → List ℕ → List ℕ → List ℕ
 turned_to id seen [] = seen
 turned_to id seen (x ∷ xs) = if x == id then (x ∷ xs) ++ seen else turned_to id (seen ++ x ∷ []) xs
 
+-- the world with the creature at the front, before quantum q
 abbrev pub ahead : World → ℕ → ℕ → World
 ahead w q id = record w { quanta = q - 1; slicer = turned_to id [] w.slicer }

@@ -1,4 +1,4 @@
--- Findings, agreement, replay, and what it is that a finding stands.
+-- Events done in order on a world, and when they fit it.
 use Rattle.std.specs.Prelude.{IsSome, List, None, [], false, length, slice_index, true, ℕ, ◌<◌, ◌∷◌, ◌≡◌, ◌≢◌, ◌≤◌}
 use Rattle.tierra_model.specs.declared.creatures.Creature.{Creature}
 use Rattle.tierra_model.specs.declared.events.Event.{Event}
@@ -14,6 +14,7 @@ abbrev pub after_events : World → List Event → World
 after_events w [] = w
 after_events w (e ∷ es) = after_events (apply_event w e) es
 
+-- the events, then the record after of the creature that ran, then the end of its turn
 unfoldable pub replay : List Event → Creature → World → World
 replay events after w = turn_end (put after (after_events w events))
 
@@ -29,11 +30,12 @@ CanHappen w (event.Mal at size) =
 CanHappen w (event.Reap place) = (place < length w.reaper) × (slice_index w.reaper place ≢ (front w).id)
 CanHappen w (event.Divide ran moved) = IsSome (front w).daughter × (1 ≤ ran)
 
+-- each event is possible at its turn
 abbrev pub CanAllHappen : World → List Event → Type 0
 CanAllHappen w [] = Unit {0}
 CanAllHappen w (e ∷ es) = CanHappen w e × CanAllHappen (apply_event w e) es
 
--- the record fits the creature at the front
+-- the record after fits the creature that is at the front after the last event
 pub record RecordFits (c after : Creature) : Type 0 where
   pub id : after.id ≡ c.id
   pub own : after.own ≡ c.own
@@ -41,6 +43,7 @@ pub record RecordFits (c after : Creature) : Type 0 where
   pub errors : after.errors ≡ c.errors
   pub genotype : after.genotype ≡ c.genotype
 
+-- the events with the record after fit the world
 pub record EventsFit (events : List Event) (after : Creature) (w : World) : Type 0 where
   pub each : CanAllHappen w events
   pub sound : IsSound (replay events after w)

@@ -1,10 +1,11 @@
--- Room.
+-- Owned cells, and where a block finds room.
 use Rattle.std.specs.List.{list_any}
 use Rattle.std.specs.Prelude.{Bool, List, None, Option, Some, false, if◌then◌else◌, nat_le, suc, true, zero, ℕ, ◌*◌, ◌+◌, ◌-◌, ◌==◌, ◌||◌}
 use Rattle.tierra_model.specs.declared.creatures.Creature.{Creature}
 use Rattle.tierra_model.specs.declared.parameters.Settings.{Settings}
 use Rattle.tierra_model.specs.Blocks.{is_in, is_in_daughter}
 
+-- the cell is the creature's
 abbrev pub holds : Creature → ℕ → Bool
 holds c p = is_in c.own p || is_in_daughter c.daughter p
 
@@ -26,10 +27,11 @@ first_fit_from owned size p zero = None
 first_fit_from owned size p (suc k) =
     elim (are_free owned p size) [ true ↦ Some p | false ↦ first_fit_from owned size (p + 1) k ]
 
--- the least address of size free cells in a soup of n
+-- The least address of size free cells in a soup of n. No place is tried where the block is longer than the soup.
 abbrev pub first_fit : ℕ → (ℕ → Bool) → ℕ → Option ℕ
 first_fit n owned size = first_fit_from owned size 0 (n + 1 - size)
 
+-- the number of owned cells
 abbrev pub filled : ℕ → (ℕ → Bool) → ℕ
 filled n owned = count_from owned 0 n
 

@@ -1,4 +1,4 @@
--- A scene: what a quantum can see of a world. A quantum that runs in it notes what it reads.
+-- A scene: what a quantum can see of a world.
 use Rattle.std.specs.Prelude.{Bool, List, None, Option, Some, [], not, slice_index_or, slice_set, ℕ, ◌&&◌, ◌++◌, ◌+◌, ◌||◌, ◌∷◌}
 use Rattle.tierra_model.specs.declared.creatures.Block.{Block}
 use Rattle.tierra_model.specs.declared.creatures.Creature.{Creature}
@@ -25,19 +25,24 @@ unfoldable pub scene_of : World → Scene
 scene_of w =
     record { settings = w.settings; quanta = w.quanta; front = front w; soup = w.soup; free = free_list w; yard = yard w }
 
+-- the running creature's standing in the yard follows its record
 abbrev pub set_front : Creature → Scene → Scene
 set_front c s = record s { front = c; yard = with_standing c s.yard }
 
+-- the cells that the test picks are free too
 abbrev pub with_freed : (ℕ → Bool) → Scene → Scene
 with_freed test s = record s { free = runs_of s.settings.soup_size (λ p. is_in_some s.free p || test p) }
 
+-- the cells of the block are no longer free
 abbrev pub with_taken : Block → Scene → Scene
 with_taken b s = record s { free = runs_of s.settings.soup_size (λ p. is_in_some s.free p && not (is_in b p)) }
 
+-- newborn k of the quantum stands at the bottom
 abbrev pub with_newborn : ℕ → Option Block → Scene → Scene
 with_newborn k None s = s
 with_newborn k (Some b) s = record s { yard = s.yard ++ (record { id = stand_in k; errors = 0; own = b; daughter = None }) ∷ [] }
 
+-- What an event does to a scene in which k creatures were born in this quantum.
 unfoldable pub apply_in_scene : ℕ → Scene → Event → Scene
 apply_in_scene k s (event.Write at value) = record s { soup = slice_set s.soup at value }
 apply_in_scene k s event.Err =

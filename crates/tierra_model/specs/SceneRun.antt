@@ -1,4 +1,4 @@
--- course.
+-- A quantum that runs in a scene, and notes what it reads.
 use Rattle.std.specs.List.{list_any}
 use Rattle.std.specs.Prelude.{Bool, List, [], false, if◌then◌else◌, map, not, slice_index, true, ℕ, ◌++◌, ◌+◌, ◌||◌, ◌∷◌}
 use Rattle.tierra_model.specs.declared.events.Event.{Event}

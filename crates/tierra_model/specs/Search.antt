@@ -32,6 +32,7 @@ unfoldable pub candidates : ℕ → ℕ → ℕ → Way → ℕ → ℕ → List
 candidates n ip t way zero d = []
 candidates n ip t way (suc k) d = at_distance n ip t way d ++ candidates n ip t way k (d + 1)
 
+-- the place behind the match, if there is one
 abbrev pub found_at : ℕ → ℕ → Option ℕ → Found
 found_at n t None = found.NoMatch
 found_at n t (Some p) = found.At ((p + t) % n)

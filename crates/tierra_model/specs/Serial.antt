@@ -1,4 +1,4 @@
--- One creature at a time.
+-- A run of one creature at a time: no versions, no reads, no reruns.
 use Rattle.std.specs.Prelude.{List, None, [], drop, length, replicate, suc, take, zero, ℕ, ◌++◌, ◌+◌, ◌∷◌}
 use Rattle.tierra_model.specs.declared.setups.Inoculum.{Inoculum}
 use Rattle.tierra_model.specs.declared.parameters.Settings.{Settings}
@@ -11,6 +11,7 @@ use Rattle.tierra_model.specs.Setups.{SetupFields, block_of}
 abbrev pub overwrite : List ℕ → ℕ → List ℕ → List ℕ
 overwrite xs at ys = take at xs ++ ys ++ drop (at + length ys) xs
 
+-- before anything is put in
 abbrev pub empty_world : Settings → World
 empty_world s =
     record {
@@ -27,6 +28,7 @@ empty_world s =
       quanta = 0;
     }
 
+-- each creature of the list in its order: its code in the soup, then the creature
 abbrev pub with_inocula : List Inoculum → World → World
 with_inocula [] w = w
 with_inocula (c ∷ cs) w =
@@ -36,6 +38,7 @@ with_inocula (c ∷ cs) w =
 unfoldable pub start : SetupFields → World
 start setup = with_inocula setup.creatures (empty_world setup.settings)
 
+-- the world after so many quanta
 unfoldable pub serial : SetupFields → ℕ → World
 serial setup zero = start setup
 serial setup (suc n) = quantum (serial setup n)

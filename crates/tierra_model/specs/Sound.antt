@@ -1,4 +1,4 @@
--- Sound.
+-- When a world is sound.
 use Rattle.std.specs.Prelude.{All, IfSome, List, [], if◌then◌else◌, length, map, nat_le, ℕ, ◌*◌, ◌+◌, ◌<◌, ◌==◌, ◌^◌, ◌∷◌, ◌≡◌, ◌≤◌}
 use Rattle.std.specs.Str.{bytes_eq}
 use Rattle.tierra_model.specs.declared.creatures.Creature.{Creature}
@@ -12,6 +12,7 @@ use Rattle.tierra_model.specs.World.{Genotype, Saving, World, genotype_at}
 abbrev pub owners_of : Creature → ℕ → ℕ
 owners_of c p = one_if (is_in c.own p) + one_if (is_in_daughter c.daughter p)
 
+-- how many blocks have the cell in all
 abbrev pub owners : List Creature → ℕ → ℕ
 owners living p = sum_of (λ c. owners_of c p) living
 
@@ -29,6 +30,7 @@ abbrev pub ParentsBelow : ℕ → List Genotype → Type 0
 ParentsBelow k [] = Unit {0}
 ParentsBelow k (g ∷ gs) = IfSome g.parent (λ p. p < k) × ParentsBelow (k + 1) gs
 
+-- the numbers of the saved genotypes
 abbrev pub numbers_of : List Saving → List ℕ
 numbers_of saved = map (λ s. s.genotype) saved
 

@@ -27,6 +27,7 @@ abbrev pub may_divide : Settings → Option Block → ℕ → Bool
 may_divide s None moved = false
 may_divide s (Some b) moved = nat_le (s.move_percent * b.size) (moved * 100)
 
+-- a push moves the pointer up and stores there
 abbrev pub push : Creature → ℤ → Creature
 push c v =
     let top = (c.sp + 1) % 10 in
@@ -36,10 +37,11 @@ push c v =
 abbrev pub top_of : Creature → ℤ
 top_of c = slice_index_or c.stack c.sp (pos 0)
 
+-- a pop has read at the pointer, and moves it down
 abbrev pub pop : Creature → Creature
 pop c = record c { sp = (c.sp + 9) % 10 }
 
--- The record before what the act does to it (marked, in Happen), and the act.
+-- The record before what the act does to it (record_after, in Events), and the act.
 abbrev pub Outcome : Type 0
 Outcome = Creature × Act
 
@@ -120,9 +122,8 @@ execute s f bit ip c Mal = Answer (c, mal_act (mal_request s c.own.size c.cx))
 execute s f bit ip c Divide =
     Answer (c, (if may_divide s c.daughter c.moved then act.Divide else act.Erred))
 
--- Instruction i of a quantum whose draws are draw: D7's list of cells is looks (step ..) of the soup. The flag is
--- that of an instruction that did not err;
--- what an error does to the record is done with the act.
+-- Instruction i of a quantum whose draws are draw. The cells that it looks at, in order, are looks (step ..) of the
+-- soup. The flag is that of an instruction that did not err: what an error does to the record is done with the act.
 unfoldable pub step : Settings → (ℕ → ℕ) → ℕ → Creature → Look Outcome
 step s draw i c = do
   code ← cell c.ip

@@ -1,4 +1,4 @@
--- A world, and when it is sound.
+-- A world.
 use Rattle.std.specs.Prelude.{List, None, Option, [], slice_index, slice_index_or, ℕ}
 use Rattle.tierra_model.specs.declared.creatures.Creature.{Creature}
 use Rattle.tierra_model.specs.declared.creatures.Effort.{Effort}
@@ -15,7 +15,7 @@ pub record Genotype : Type 0 where
   pub first_effort : Option Effort
   pub second_effort : Option Effort
 
--- a name for what is past the end of the list
+-- for what is past the end of the list
 abbrev pub no_genotype : Genotype
 no_genotype = record { code = []; parent = None; first_quantum = 0; total = 0; first_effort = None; second_effort = None }
 

@@ -1,4 +1,4 @@
--- Yard.
+-- The yard: what the reaper queue shows of each creature.
 use Rattle.std.specs.Prelude.{Bool, List, None, if◌then◌else◌, map, ℕ, ◌+◌, ◌==◌, ◌^◌}
 use Rattle.tierra_model.specs.declared.creatures.Creature.{Creature}
 use Rattle.tierra_model.specs.declared.creatures.Standing.{Standing}
@@ -19,10 +19,10 @@ with_standing c standings = map (λ x. if x.id == c.id then standing c else x) s
 abbrev pub is_his : Creature → Standing → Bool
 is_his c x = x.id == c.id
 
--- a name for what is past the end of a yard
+-- for what is past the end of a yard
 abbrev pub no_standing : Standing
 no_standing = record { id = 0; errors = 0; own = no_block; daughter = None }
 
--- the number that stands for newborn k of the quantum
+-- the number that stands for newborn k of a quantum, which no creature of a sound world has
 abbrev pub stand_in : ℕ → ℕ
 stand_in k = 2 ^ 63 + k
