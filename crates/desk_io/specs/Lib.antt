@@ -1,0 +1,4 @@
+pub mod Desk
+pub mod MemDesk
+pub mod MemSource
+pub mod Source
