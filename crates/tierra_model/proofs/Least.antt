@@ -6,14 +6,15 @@ use Rattle.tierra_model.specs.declared.searching.Way.{Way}
 use Rattle.tierra_model.specs.declared.searching.Way.TheVariants.{Outward, Forward, Backward}
 use Rattle.tierra_model.specs.declared.searching.Found.TheVariants as found
 use Rattle.tierra_model.specs.Search.{template, is_complement, candidates, found_at, found_by}
-use Rattle.tierra_model.specs.Nearest.{Side, Ahead, Behind, is_allowed, candidate, IsBefore, IsFound, NearestIsFound}
+use Rattle.tierra_model.proofs.WalkFinds.{search-answer}
+use Rattle.tierra_model.specs.Nearest.{Side, OnForward, OnBackward, is_allowed, candidate, IsBefore, IsFound, NearestIsFound}
 
 -- ---- the first hit of the distances from d on
 
 module _ (hit : Side → ℕ → Bool) (cand : Side → ℕ → ℕ) where
   abbrev pick : ℕ → ℕ → Option ℕ
   pick zero d = None
-  pick (suc k) d = cond (hit Ahead d) (Some (cand Ahead d)) (cond (hit Behind d) (Some (cand Behind d)) (pick k (d + 1)))
+  pick (suc k) d = cond (hit OnForward d) (Some (cand OnForward d)) (cond (hit OnBackward d) (Some (cand OnBackward d)) (pick k (d + 1)))
 
   abbrev Picks : ℕ → ℕ → Option ℕ → Type 0
   Picks k d None = (s : Side) (c : ℕ) → d ≤ c → c < d + k → hit s c ≡ false
@@ -21,26 +22,26 @@ module _ (hit : Side → ℕ → Bool) (cand : Side → ℕ → ℕ) where
       (s : Side) × (c : ℕ) × (d ≤ c) × (c < d + k) × (hit s c ≡ true) × (p ≡ cand s c)
       × ((r : Side) (b : ℕ) → IsBefore r b s c → d ≤ b → hit r b ≡ false)
 
-  none_at : (d : ℕ) → hit Ahead d ≡ false → hit Behind d ≡ false → (s : Side) → hit s d ≡ false
-  none_at d e f Ahead = e
-  none_at d e f Behind = f
+  none_at : (d : ℕ) → hit OnForward d ≡ false → hit OnBackward d ≡ false → (s : Side) → hit s d ≡ false
+  none_at d e f OnForward = e
+  none_at d e f OnBackward = f
 
-  before_ahead : (d : ℕ) (r : Side) (b : ℕ) → IsBefore r b Ahead d → d ≤ b → hit r b ≡ false
-  before_ahead d Ahead b i l = absurd (omega arith)
-  before_ahead d Behind b i l = absurd (omega arith)
+  before_ahead : (d : ℕ) (r : Side) (b : ℕ) → IsBefore r b OnForward d → d ≤ b → hit r b ≡ false
+  before_ahead d OnForward b i l = absurd (omega arith)
+  before_ahead d OnBackward b i l = absurd (omega arith)
 
-  before_behind : (d : ℕ) → hit Ahead d ≡ false → (r : Side) (b : ℕ) → IsBefore r b Behind d → d ≤ b → hit r b ≡ false
-  before_behind d e Ahead b i l = subst (λ c. hit Ahead c ≡ false) (omega arith) e
-  before_behind d e Behind b i l = absurd (omega arith)
+  before_behind : (d : ℕ) → hit OnForward d ≡ false → (r : Side) (b : ℕ) → IsBefore r b OnBackward d → d ≤ b → hit r b ≡ false
+  before_behind d e OnForward b i l = subst (λ c. hit OnForward c ≡ false) (omega arith) e
+  before_behind d e OnBackward b i l = absurd (omega arith)
 
   picks : (k d : ℕ) → Picks k d (pick k d)
   picks zero d = λ s c h l. absurd (omega arith)
-  picks (suc k) d = go (hit Ahead d) (hit Behind d) refl refl (pick k (d + 1)) (picks k (d + 1))
+  picks (suc k) d = go (hit OnForward d) (hit OnBackward d) refl refl (pick k (d + 1)) (picks k (d + 1))
     where
-      go : (a b : Bool) → hit Ahead d ≡ a → hit Behind d ≡ b → (o : Option ℕ) → Picks k (d + 1) o
-          → Picks (suc k) d (cond a (Some (cand Ahead d)) (cond b (Some (cand Behind d)) o))
-      go true b e f o h = (Ahead, d, omega arith, omega arith, e, refl, λ r c i l. before_ahead d r c i l)
-      go false true e f o h = (Behind, d, omega arith, omega arith, f, refl, λ r c i l. before_behind d e r c i l)
+      go : (a b : Bool) → hit OnForward d ≡ a → hit OnBackward d ≡ b → (o : Option ℕ) → Picks k (d + 1) o
+          → Picks (suc k) d (cond a (Some (cand OnForward d)) (cond b (Some (cand OnBackward d)) o))
+      go true b e f o h = (OnForward, d, omega arith, omega arith, e, refl, λ r c i l. before_ahead d r c i l)
+      go false true e f o h = (OnBackward, d, omega arith, omega arith, f, refl, λ r c i l. before_behind d e r c i l)
       go false false e f None h = λ s c l u. elim (eqb_tells d c) [
         | inl q ↦ subst (λ j. hit s j ≡ false) q.1 (none_at d e f s)
         | inr q ↦ h s c (let n = q.1 in grind arith) (omega arith)
@@ -68,14 +69,14 @@ find-pick : (n : ℕ) (cells : ℕ → ℕ) (ip : ℕ) (vs : List ℕ) (way : Wa
 unfolding candidates
 find-pick n cells ip vs way zero d = refl
 find-pick n cells ip vs Outward (suc k) d =
-    let a : ℕ = candidate n ip (length vs) Ahead d in
-    let b : ℕ = candidate n ip (length vs) Behind d in
+    let a : ℕ = candidate n ip (length vs) OnForward d in
+    let b : ℕ = candidate n ip (length vs) OnBackward d in
     ap (λ (o : Option ℕ). cond (is_complement n cells vs a) (Some a) (cond (is_complement n cells vs b) (Some b) o)) (find-pick n cells ip vs Outward k (d + 1))
 find-pick n cells ip vs Forward (suc k) d =
-    let a : ℕ = candidate n ip (length vs) Ahead d in
+    let a : ℕ = candidate n ip (length vs) OnForward d in
     ap (λ (o : Option ℕ). cond (is_complement n cells vs a) (Some a) o) (find-pick n cells ip vs Forward k (d + 1))
 find-pick n cells ip vs Backward (suc k) d =
-    let b : ℕ = candidate n ip (length vs) Behind d in
+    let b : ℕ = candidate n ip (length vs) OnBackward d in
     ap (λ (o : Option ℕ). cond (is_complement n cells vs b) (Some b) o) (find-pick n cells ip vs Backward k (d + 1))
 
 both : (a b : Bool) → (a && b) ≡ true → (a ≡ true) × (b ≡ true)
@@ -88,9 +89,9 @@ never true true e h k = cc
 never true false e h k = cc
 never false b e h k = cc
 
-pub nearest : NearestIsFound
+nearest-found_by : (n : ℕ) (cells : ℕ → ℕ) (ip : ℕ) (way : Way) (limit min : ℕ) → IsFound n cells ip way limit min (found_by n cells ip way limit min)
 unfolding found_by
-nearest n cells ip way limit min = go (nat_lt (length vs) min) refl
+nearest-found_by n cells ip way limit min = go (nat_lt (length vs) min) refl
   where
     vs : List ℕ
     vs = template n cells 10 (ip + 1)
@@ -121,3 +122,8 @@ nearest n cells ip way limit min = go (nat_lt (length vs) min) refl
     go false e =
         subst (λ o. IsFound n cells ip way limit min (found_at n (length vs) o)) (sym (find-pick n cells ip vs way limit 1))
         (found_is (pick hit cand limit 1) (grind (arith, nat_tests)) (picks hit cand limit 1))
+
+-- the looks find what the first of the candidates is
+pub nearest : NearestIsFound
+nearest n cells ip way limit min =
+    subst (IsFound n cells ip way limit min) (sym (search-answer n cells ip way limit min)) (nearest-found_by n cells ip way limit min)

@@ -40,3 +40,4 @@ pub mod Logged
 pub mod Own
 pub mod Ranges
 pub mod StandIns
+pub mod LeastFit

@@ -1,4 +1,5 @@
--- What the seed decides.
+-- What the seed decides. Words 0 to 2 of a quantum's stream decide its background flip, words 3 + 4 i to 6 + 4 i its
+-- instruction i.
 use Rattle.rand_chacha.specs.ChaCha.{key_of, word_at}
 use Rattle.std.specs.Prelude.{Bool, List, None, Option, Some, false, if◌then◌else◌, negsuc, pos, suc, true, zero, ℕ, ℤ, ◌%◌, ◌*◌, ◌+◌, ◌==◌}
 
@@ -11,7 +12,7 @@ abbrev pub is_due : ℕ → (ℕ → ℕ) → ℕ → Bool
 is_due zero draw k = false
 is_due (suc r) draw k = draw k % suc r == 0
 
--- the flaw of instruction i
+-- the flaw of instruction i: where it is due, 1 or -1 as the next word is even or odd, and else 0
 abbrev pub flaw : ℕ → (ℕ → ℕ) → ℕ → ℤ
 flaw rate draw i =
     elim (is_due rate draw (3 + 4 * i)) [

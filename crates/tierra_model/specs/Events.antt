@@ -1,4 +1,4 @@
--- What each event does to the running creature's record, and to a world.
+-- What each event of a quantum does to the running creature's record, and to a world.
 use Rattle.std.specs.Prelude.{Bool, List, None, Option, Some, [], filter, not, pos, slice_index, slice_range, slice_set, ℕ, ◌++◌, ◌+◌, ◌==◌, ◌∷◌}
 use Rattle.tierra_model.specs.declared.creatures.Block.{Block}
 use Rattle.tierra_model.specs.declared.creatures.Creature.{Creature}
@@ -27,7 +27,7 @@ abbrev pub has_id : Creature → ℕ → Bool
 has_id c id = id == c.id
 
 -- A creature with the next birth number comes into the world, at the bottom and at the back. Its genotype is
--- counted among those given.
+-- counted among those known before.
 abbrev pub with_creature : List Genotype → Block → List ℕ → Option ℕ → ℕ → World → World
 with_creature known own code parent q w =
     let (genotypes, k) = with_individual known code parent q in
@@ -52,9 +52,9 @@ with_death id w =
 
 -- The daughter block becomes a creature, whose mother has the genotype. A divide is possible only with a daughter block.
 abbrev pub with_birth : List Genotype → Option Block → ℕ → World → World
-with_birth known None mother w = w
-with_birth known (Some b) mother w =
-    let v = with_creature known b (slice_range w.soup b.at (b.at + b.size)) (Some mother) (w.quanta + 1) w in
+with_birth known None parent w = w
+with_birth known (Some b) parent w =
+    let v = with_creature known b (slice_range w.soup b.at (b.at + b.size)) (Some parent) (w.quanta + 1) w in
     record v { births = w.births + 1 }
 
 abbrev pub errors_in : World → ℕ → ℕ
@@ -66,7 +66,9 @@ with_error_move w = record w { reaper = error_move (has_id (front w)) (errors_in
 abbrev pub with_good_move : World → World
 with_good_move w = record w { reaper = good_move (has_id (front w)) (errors_in w) w.reaper }
 
--- What an event of the creature at the front does.
+-- What an event does. (Where it cannot happen, what it does has no meaning.) A birth, in order: the mother's genotype
+-- gets the effort, by which of her daughters this is; the daughter block becomes a creature; then her record loses the
+-- daughter block, and ran begins anew.
 unfoldable pub apply_event : World → Event → World
 apply_event w (event.Write at value) = record w { soup = slice_set w.soup at value }
 apply_event w event.Err = with_error_move (put (record_after event.Err (front w)) w)

@@ -26,7 +26,7 @@ abbrev pub seen_soup : List (ℕ × ℕ) → List ℕ → List ℕ
 seen_soup [] soup = soup
 seen_soup (c ∷ cs) soup = seen_soup cs (slice_set soup c.0 c.1)
 
--- the scene that a finding tells: what it did not read is empty
+-- the scene that a finding tells: cells not read hold 0, and lists not noted are empty
 abbrev pub scene_of_finding : Finding → Scene
 scene_of_finding f =
     record {
@@ -38,7 +38,7 @@ scene_of_finding f =
       yard = unwrap_or f.reads.yard [];
     }
 
--- what the scene touches, its events and its record after are those of the finding
+-- what the scene touches, its events and its record after are those of the finding, and its quantum is from 1 to 4,000,000
 pub record Stands (f : Finding) : Type 0 where
   pub reads : reads_of (run_in_scene (scene_of_finding f)) ≡ f.reads
   pub events : (run_in_scene (scene_of_finding f)).events ≡ f.events

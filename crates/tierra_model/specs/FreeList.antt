@@ -6,11 +6,12 @@ use Rattle.tierra_model.specs.Blocks.{is_in}
 use Rattle.tierra_model.specs.World.{World}
 use Rattle.tierra_model.specs.Room.{is_owned}
 
--- The runs of cells that the test picks, among the k cells from p on. A run that reaches p began size cells before it.
+-- the run of the size cells before p, if there are any, and the others
 abbrev pub with_run : ℕ → ℕ → List Block → List Block
 with_run p zero rest = rest
 with_run p (suc size) rest = record { at = p - suc size; size = suc size } ∷ rest
 
+-- The runs of cells that the test picks, among the k cells from p on. A run that reaches p began size cells before it.
 abbrev pub runs_from : (ℕ → Bool) → ℕ → ℕ → ℕ → List Block
 runs_from test size p zero = with_run p size []
 runs_from test size p (suc k) =

@@ -16,7 +16,7 @@ pub record GroupFields : Type 0 where
 abbrev pub IsName : Name → Type 0
 IsName n = (1 ≤ n.size) × (n.size ≤ 20000) × (n.rank < 2 ^ 60)
 
--- form One has no efforts
+-- form One has no efforts, and in form Two each effort has run an instruction
 abbrev pub EffortsIn : Form → Saved → Type 0
 EffortsIn form.One s = (s.first ≡ None) × (s.second ≡ None)
 EffortsIn form.Two s = AreEfforts s.first s.second

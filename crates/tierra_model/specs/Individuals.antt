@@ -37,7 +37,7 @@ abbrev pub first_of_both : Option Effort → Effort → Option Effort
 first_of_both None e = Some e
 first_of_both (Some d) e = Some d
 
--- a genotype after the daughter number bred of a mother that has it
+-- a genotype after a mother of it had her daughter number bred, at this effort
 abbrev pub with_effort : ℕ → Effort → Genotype → Genotype
 with_effort bred e g =
     record g {
@@ -51,7 +51,7 @@ with_effort_of k bred e [] = []
 with_effort_of zero bred e (g ∷ gs) = with_effort bred e g ∷ gs
 with_effort_of (suc k) bred e (g ∷ gs) = g ∷ with_effort_of k bred e gs
 
--- the genotypes that are known when the mother's daughter is born
+-- the genotypes with the mother's effort for this daughter, before the daughter is counted
 abbrev pub genotypes_at_birth : Creature → ℕ → ℕ → List Genotype → List Genotype
 genotypes_at_birth mother ran moved genotypes =
     with_effort_of mother.genotype (mother.bred + 1) (record { ran = ran; moved = moved }) genotypes

@@ -6,6 +6,7 @@ pub mod Nearest
 pub mod Draw
 pub mod Queue
 pub mod Legal
+pub mod Report
 pub mod Laws
 pub mod Difference
 pub mod Quantum

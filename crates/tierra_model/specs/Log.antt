@@ -1,4 +1,4 @@
--- A quantum of a world that is logged: what it reads and does, with no scene between.
+-- What the quantum of a world reads and does, noted while it runs.
 use Rattle.std.specs.List.{list_any}
 use Rattle.std.specs.Prelude.{Bool, List, [], false, if◌then◌else◌, slice_index, true, ℕ, ◌++◌, ◌+◌, ◌||◌, ◌∷◌, ◌≡◌}
 use Rattle.tierra_model.specs.declared.events.Event.{Event}
@@ -59,7 +59,8 @@ touched w =
 abbrev pub events_of : World → List Event
 events_of w = (log_of w).events
 
--- What a quantum reads and does, and the record that it leaves, are those of its scene.
+-- Noting changes nothing of the quantum; and what it reads and does, and the record that it leaves, are those of its
+-- scene.
 pub record IsSceneAlone (w : World) : Type 0 where
   pub quantum : turn_end (log_of w).now ≡ quantum w
   pub reads : touched w ≡ reads_of (run_in_scene (scene_of w))

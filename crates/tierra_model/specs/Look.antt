@@ -25,11 +25,12 @@ abbrev pub looks : {A : Type 0} → Look A → (ℕ → ℕ) → List ℕ
 looks (Answer a) cells = []
 looks (LookAt p next) cells = p ∷ looks (next (cells p)) cells
 
--- A look after another, in anything that cells can be seen in: what it is then, and the answer.
+-- The looks one after another from v on, where cells v p is what cell p holds and looked v p what a look at p leaves:
+-- what is left of v, and the answer.
 abbrev pub pass : {S A : Type 0} → (S → ℕ → ℕ) → (S → ℕ → S) → Look A → S → S × A
 pass cells looked (Answer a) v = (v, a)
 pass cells looked (LookAt p next) v = pass cells looked (next (cells v p)) (looked v p)
 
--- The looks leave u where they began with v, and answer a.
+-- From v the looks lead to u, and the answer is a.
 abbrev pub Passes : {S A : Type 0} → (S → ℕ → ℕ) → (S → ℕ → S) → Look A → S → S → A → Type 0
 Passes cells looked t v u a = pass cells looked t v ≡ (u, a)

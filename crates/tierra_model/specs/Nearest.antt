@@ -5,29 +5,30 @@ use Rattle.tierra_model.specs.declared.searching.Way.{Way}
 use Rattle.tierra_model.specs.declared.searching.Way.TheVariants.{Backward, Forward, Outward}
 use Rattle.tierra_model.specs.declared.searching.Found.TheVariants as found
 use Rattle.tierra_model.specs.Ring.{forward, backward}
-use Rattle.tierra_model.specs.Search.{found_by, is_complement, template}
+use Rattle.tierra_model.specs.Look.{answer}
+use Rattle.tierra_model.specs.Search.{is_complement, search_for, template}
 
 pub data Side : Type 0 where
-  Ahead : Side
-  Behind : Side
+  OnForward : Side
+  OnBackward : Side
 
 abbrev pub is_allowed : Way → Side → Bool
 is_allowed Outward side = true
-is_allowed Forward Ahead = true
-is_allowed Forward Behind = false
-is_allowed Backward Ahead = false
-is_allowed Backward Behind = true
+is_allowed Forward OnForward = true
+is_allowed Forward OnBackward = false
+is_allowed Backward OnForward = false
+is_allowed Backward OnBackward = true
 
--- ip + t + d ahead, and ip - t + 1 - d behind
+-- ip + t + d forward, and ip - t + 1 - d backward
 abbrev pub candidate : ℕ → ℕ → ℕ → Side → ℕ → ℕ
-candidate n ip t Ahead d = forward n ip (t + d)
-candidate n ip t Behind d = backward n (ip + 1) (t + d)
+candidate n ip t OnForward d = forward n ip (t + d)
+candidate n ip t OnBackward d = backward n (ip + 1) (t + d)
 
--- distance c on the first side comes backward distance d on the second: it is less, or ahead at the same distance
+-- Distance c on the first side is tried before distance d on the second: it is less, or forward at the same distance.
 abbrev pub IsBefore : Side → ℕ → Side → ℕ → Type 0
-IsBefore Ahead c Ahead d = c < d
-IsBefore Ahead c Behind d = c ≤ d
-IsBefore Behind c side d = c < d
+IsBefore OnForward c OnForward d = c < d
+IsBefore OnForward c OnBackward d = c ≤ d
+IsBefore OnBackward c side d = c < d
 
 module _ (n : ℕ) (cells : ℕ → ℕ) (ip : ℕ) (way : Way) (limit min : ℕ) where
   abbrev pub nops : List ℕ
@@ -47,7 +48,7 @@ module _ (n : ℕ) (cells : ℕ → ℕ) (ip : ℕ) (way : Way) (limit min : ℕ
       × ((side : Side) × (d : ℕ) × Matches side d × (p ≡ (candidate n ip (length nops) side d + length nops) % n)
       × ((s : Side) (c : ℕ) → IsBefore s c side d → Matches s c → ⊥))
 
--- A search finds that.
+-- A search finds that, by looking at one cell after another.
 abbrev pub NearestIsFound : Type 0
 NearestIsFound = (n : ℕ) (cells : ℕ → ℕ) (ip : ℕ) (way : Way) (limit min : ℕ)
-    → IsFound n cells ip way limit min (found_by n cells ip way limit min)
+    → IsFound n cells ip way limit min (answer (search_for n ip way limit min) cells)

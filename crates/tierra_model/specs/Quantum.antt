@@ -63,8 +63,8 @@ module _ {S : Type 0} (P : Machine S) (s : Settings) where
   abbrev pub reap : S → S
   reap x = let y = P.ask_reaper x in reap_at (victim y) y
 
-  -- While there is no room, a creature is reaped; where there is none to reap, mal errs. left is the number of
-  -- creatures other than the caller in the reaper list, so it ends no earlier than they do.
+  -- While there is no room, the first other creature of the reaper list dies; where there is none, mal errs. left is
+  -- how many others the list has: each death takes one away, so at 0 nobody is left.
   abbrev pub make_room : ℕ → ℕ → S → S
   make_room size zero x =
       elim (room_for s (P.owned x) size) [ Some at ↦ take_block size at x | None ↦ P.apply (P.ask_reaper x) event.Err ]
@@ -79,7 +79,8 @@ module _ {S : Type 0} (P : Machine S) (s : Settings) where
 
   -- ---- one instruction, and a slice of them
 
-  -- what is left to do after a step
+  -- What is left to do after a step. At a divide the good move comes first, and the event carries what she ran, this
+  -- divide included, and what she moved.
   abbrev pub perform : Act → S → S
   perform act.Plain x = x
   perform (act.Wrote at value) x = P.apply x (event.Write at value)
@@ -89,7 +90,7 @@ module _ {S : Type 0} (P : Machine S) (s : Settings) where
 
   -- the record of a step is put in, and its act done
   abbrev pub settle : S × Outcome → S
-  settle r = perform r.1.1 (P.put r.1.0 r.0)
+  settle r = let (x, outcome) = r in let (c, act) = outcome in perform act (P.put c x)
 
   unfoldable pub instruction : (ℕ → ℕ) → ℕ → S → S
   instruction draw i x = settle (walk (step s draw i (P.front x)) x)
@@ -109,7 +110,7 @@ module _ {S : Type 0} (P : Machine S) (s : Settings) where
   reap_times zero x = x
   reap_times (suc k) x = elim (victim x) [ None ↦ x | Some place ↦ reap_times k (P.apply x (event.Reap place)) ]
 
-  -- the disturbance, where it is due
+  -- the disturbance, where it is due: of the living, who are all in the reaper list, so many in a hundred die
   abbrev pub disturb : Bool → S → S
   disturb false x = x
   disturb true x = let y = P.ask_reaper x in reap_times (length (P.reaper y) * s.dist_percent / 100) y

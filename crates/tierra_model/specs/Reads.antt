@@ -29,7 +29,7 @@ writes p (event.Divide ran moved) = false
 abbrev pub some_if : {A : Type 0} → Bool → A → Option A
 some_if b a = elim b [ true ↦ Some a | false ↦ None ]
 
--- the list turned round so that the number is first; seen are the numbers that were before it
+-- the list turned round so that the number is first, where it has it; seen are the numbers that were before it
 abbrev pub turned_to : ℕ → List ℕ → List ℕ → List ℕ
 turned_to id seen [] = seen
 turned_to id seen (x ∷ xs) = if x == id then (x ∷ xs) ++ seen else turned_to id (seen ++ x ∷ []) xs

@@ -43,7 +43,7 @@ pub record RecordFits (c after : Creature) : Type 0 where
   pub errors : after.errors ≡ c.errors
   pub genotype : after.genotype ≡ c.genotype
 
--- the events with the record after fit the world
+-- the events with the record after fit the world: each is possible, the replay is sound, and the record fits
 pub record EventsFit (events : List Event) (after : Creature) (w : World) : Type 0 where
   pub each : CanAllHappen w events
   pub sound : IsSound (replay events after w)

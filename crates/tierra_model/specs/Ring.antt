@@ -6,7 +6,7 @@ use Rattle.std.specs.Prelude.{pos, unsigned_abs, ℕ, ℤ, ◌%◌, ◌+◌, ◌
 unfoldable pub address : ℤ → ℕ → ℕ
 address v n = unsigned_abs (int_rem_euclid v (pos n))
 
--- the place k forward p, and the place k backward it
+-- the place k cells after p, and the place k cells before it
 abbrev pub forward : ℕ → ℕ → ℕ → ℕ
 forward n p k = (p + k) % n
 

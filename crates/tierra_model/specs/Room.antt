@@ -1,6 +1,6 @@
 -- Owned cells, and where a block finds room.
 use Rattle.std.specs.List.{list_any}
-use Rattle.std.specs.Prelude.{Bool, List, None, Option, Some, false, if◌then◌else◌, nat_le, suc, true, zero, ℕ, ◌*◌, ◌+◌, ◌-◌, ◌==◌, ◌||◌}
+use Rattle.std.specs.Prelude.{◌≡◌, ◌<◌, ◌≤◌, Bool, List, None, Option, Some, false, if◌then◌else◌, nat_le, suc, true, zero, ℕ, ◌*◌, ◌+◌, ◌-◌, ◌==◌, ◌||◌}
 use Rattle.tierra_model.specs.declared.creatures.Creature.{Creature}
 use Rattle.tierra_model.specs.declared.parameters.Settings.{Settings}
 use Rattle.tierra_model.specs.Blocks.{is_in, is_in_daughter}
@@ -30,6 +30,19 @@ first_fit_from owned size p (suc k) =
 -- The least address of size free cells in a soup of n. No place is tried where the block is longer than the soup.
 abbrev pub first_fit : ℕ → (ℕ → Bool) → ℕ → Option ℕ
 first_fit n owned size = first_fit_from owned size 0 (n + 1 - size)
+
+-- size cells of a soup of n stand free from a on
+abbrev pub HasRoom : ℕ → (ℕ → Bool) → ℕ → ℕ → Type 0
+HasRoom n owned size a = (a + size ≤ n) × ((p : ℕ) → a ≤ p → p < a + size → owned p ≡ false)
+
+-- the least such address, or none where there is none
+abbrev pub IsFit : ℕ → (ℕ → Bool) → ℕ → Option ℕ → Type 0
+IsFit n owned size None = (a : ℕ) → HasRoom n owned size a → ⊥
+IsFit n owned size (Some a) = HasRoom n owned size a × ((b : ℕ) → b < a → HasRoom n owned size b → ⊥)
+
+-- The first fit is that.
+abbrev pub FirstFitIsLeast : Type 0
+FirstFitIsLeast = (n : ℕ) (owned : ℕ → Bool) (size : ℕ) → IsFit n owned size (first_fit n owned size)
 
 -- the number of owned cells
 abbrev pub filled : ℕ → (ℕ → Bool) → ℕ

@@ -21,24 +21,24 @@ is_complement n cells [] p = true
 is_complement n cells (v ∷ vs) p =
     (v + cells (p % n) == 1) && is_complement n cells vs (p + 1)
 
--- the candidates at distance d, of a template of t cells: forward backward backward
+-- the candidates at distance d, of a template of t cells: forward before backward
 abbrev pub at_distance : ℕ → ℕ → ℕ → Way → ℕ → List ℕ
 at_distance n ip t Outward d = forward n ip (t + d) ∷ backward n (ip + 1) (t + d) ∷ []
 at_distance n ip t Forward d = forward n ip (t + d) ∷ []
 at_distance n ip t Backward d = backward n (ip + 1) (t + d) ∷ []
 
--- the candidates at distance d and the k - 1 distances forward it, the nearest first
+-- the candidates at distance d and at the k - 1 distances after it, the nearest first
 unfoldable pub candidates : ℕ → ℕ → ℕ → Way → ℕ → ℕ → List ℕ
 candidates n ip t way zero d = []
 candidates n ip t way (suc k) d = at_distance n ip t way d ++ candidates n ip t way k (d + 1)
 
--- the place behind the match, if there is one
+-- the place after the match, if there is one
 abbrev pub found_at : ℕ → ℕ → Option ℕ → Found
 found_at n t None = found.NoMatch
 found_at n t (Some p) = found.At ((p + t) % n)
 
--- What a search in a ring of n cells finds: nothing for a template of less than min cells, and
--- otherwise the place behind the first candidate that is a complement.
+-- What a search in a ring of n cells finds: Short for a template of less than min cells, and otherwise the place after
+-- the first candidate that is a complement, or NoMatch.
 unfoldable pub found_by : ℕ → (ℕ → ℕ) → ℕ → Way → ℕ → ℕ → Found
 found_by n cells ip way limit min =
     let vs = template n cells 10 (ip + 1) in

@@ -79,7 +79,7 @@ pub record IsSound (w : World) : Type 0 where
   pub parents : ParentsBelow 0 w.genotypes
   pub totals : All (λ g. g.total ≤ limit w.quanta) w.genotypes
   pub efforts : All (λ g. AreEfforts g.first_effort g.second_effort) w.genotypes
-  -- the saved genotypes: each once, those whose total is at least save_at (it is 0 where there is no genotype)
+  -- the saved genotypes: each once, those whose total is at least save_at (past the end of the genotypes the total is 0, and save_at is at least 1)
   pub saved : (k : ℕ) → times_in (numbers_of w.saved) k ≡ one_if (nat_le w.settings.save_at (genotype_at w.genotypes k).total)
   pub rising : Rising 0 w.saved
   pub past : All (λ s. s.quantum ≤ w.quanta) w.saved

@@ -5,8 +5,8 @@ use Rattle.tierra_model.specs.declared.creatures.Effort.{Effort}
 use Rattle.tierra_model.specs.declared.parameters.Settings.{Settings}
 use Rattle.tierra_model.specs.Living.{one_of, with_record}
 
--- a genotype: its code, its mother's genotype, the quantum of its first birth, how many ever had it, and the
--- first and the second effort
+-- a genotype: its code, its parent, which is the genotype of its first individual's mother and none for an inoculated
+-- one, the quantum of its first birth, how many ever had it, and the first and the second effort
 pub record Genotype : Type 0 where
   pub code : List ℕ
   pub parent : Option ℕ

@@ -10,7 +10,7 @@ pub enum Act {
     Divide,
 }
 
-/// A change of the world by the creature that runs.
+/// A change of the world in a quantum.
 #[derive(Clone, Copy, Drop, PartialEq, Eq, Debug)]
 pub enum Event {
     /// A cell is set.

@@ -19,7 +19,8 @@ pub enum Form {
 }
 
 /// A genotype as it was saved. The parent is the genotype of its first individual's mother, none where that
-/// one was inoculated. The efforts are those of its first daughters who were a mother's first and second.
+/// one was inoculated. `first` is what the earliest first daughter of a mother of this genotype cost her, `second`
+/// what the earliest second one did, as they stood when it was saved.
 #[derive(Debug, Drop)]
 pub struct Saved {
     pub name: Name,

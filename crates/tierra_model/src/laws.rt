@@ -4,6 +4,7 @@ ghost use Rattle.tierra_model.specs.Findings.{LawOfFindings};
 ghost use Rattle.tierra_model.specs.Difference.{DifferenceTells, LeastPlace};
 ghost use Rattle.tierra_model.specs.Laws.{QuantumIsSound, SerialIsSound, BankIsGroups, BankInRange, YardsAreSafe};
 ghost use Rattle.tierra_model.specs.Nearest.{NearestIsFound};
+ghost use Rattle.tierra_model.specs.Room.{FirstFitIsLeast};
 ghost use Rattle.tierra_model.specs.Log.{SceneAlone};
 
 /// Does nothing: its contract is the law that a finding which stands and agrees is the quantum.
@@ -54,4 +55,9 @@ pub fn bank_in_range()
 /// Does nothing: its contract is the law that stand-ins are nobody's, and that who is not in a yard does not move in it.
 pub fn yards_are_safe()
     ensures { YardsAreSafe }
+{}
+
+/// Does nothing: its contract is the law that a first fit is at the least address where the cells are free.
+pub fn first_fit_is_least()
+    ensures { FirstFitIsLeast }
 {}

@@ -5,7 +5,7 @@
 mod creatures;
 mod events;
 mod genebank;
-pub mod history;
+mod history;
 mod laws;
 mod lists;
 mod ops;
@@ -19,8 +19,8 @@ pub use events::{Act, Event};
 pub use genebank::{Form, Group, Groups, Name, Saved, SavedList};
 pub use history::{Entry, How, Stale};
 pub use laws::{
-    bank_in_range, bank_is_groups, difference_tells, law_of_findings, least_place,
-    nearest_is_found, quantum_is_sound, scene_alone, serial_is_sound, yards_are_safe,
+    bank_in_range, bank_is_groups, difference_tells, first_fit_is_least, law_of_findings,
+    least_place, nearest_is_found, quantum_is_sound, scene_alone, serial_is_sound, yards_are_safe,
 };
 pub use lists::{Code, EventList, FreeList, Text, Yard};
 pub use ops::Op;

@@ -22,23 +22,23 @@ pub struct Settings {
     pub max_cell: u32,
     /// How many times its own size a creature may ask for.
     pub mal_mult: u32,
-    /// The part of the soup that may be owned, in percent.
+    /// The part of the soup up to which `mal` gives, in percent.
     pub fill_percent: u32,
     /// The part of a daughter block that must have been copied before it divides, in percent.
     pub move_percent: u32,
     /// How many individuals a genotype needs before it is saved.
     pub save_at: u32,
-    /// One in so many quanta flips a bit of the soup; never where it is 0.
+    /// One in so many quanta, on the average, flips a bit of the soup; none where it is 0.
     pub back_rate: u32,
-    /// One in so many copies flips a bit; never where it is 0.
+    /// One in so many copies, on the average, flips a bit; none where it is 0.
     pub copy_rate: u32,
-    /// One in so many instructions is flawed; never where it is 0.
+    /// One in so many instructions, on the average, is flawed; none where it is 0.
     pub flaw_rate: u32,
     /// The seed of all draws.
     pub seed: [u8; 32],
-    /// One in so many quanta is disturbed; never where it is 0.
+    /// Each quantum that it divides is disturbed; none where it is 0.
     pub dist_every: u32,
-    /// The part of the living that a disturbance kills, in percent.
+    /// The part of the living that a disturbance kills, in percent, rounded down; never the creature that runs.
     pub dist_percent: u32,
     pub ghost soup: { (100 ≤ soup_size) × (soup_size ≤ 1048576) },
     pub ghost slice: { (1 ≤ slice_size) × (slice_size ≤ 10000) },

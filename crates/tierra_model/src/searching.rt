@@ -8,7 +8,7 @@ pub enum Way {
     Backward,
 }
 
-/// What a search finds: the cell behind the match, a template that is too short, or no match.
+/// What a search finds: the cell after the match, a template that is too short, or no match.
 #[derive(Clone, Copy, Drop, PartialEq, Eq, Debug)]
 pub enum Found {
     At(u32),
