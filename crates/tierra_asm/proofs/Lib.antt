@@ -1,0 +1,4 @@
+mod Parts
+mod Fronts
+mod Cuts
+pub mod Reading

@@ -1,0 +1,66 @@
+//! The assembler: the code of a listing.
+#![tactic(auto)]
+
+ghost use Rattle.std.specs.Prelude.{◌≡◌, ◌⊎◌, IfOk, IfErr};
+ghost use Rattle.tierra_model.specs.Ranges.{IsCode};
+ghost use Rattle.tierra_asm.specs.Listing.{listing_of};
+ghost use Rattle.tierra_asm.specs.declared.AsmFault.TheVariants.{OutOfMemory};
+
+mod word_reader;
+
+use soup_ops::{by_name, code};
+use std::alloc::{AllocFailed, Global};
+use tierra_model::Code;
+pub use word_reader::{Word, Words};
+
+/// The most instructions that a code may have.
+pub const MOST_INSTRUCTIONS: usize = 20000;
+
+/// Why a listing has no code. Lines are counted from 1; one above 4,294,967,295 is given as that number.
+#[derive(Clone, Copy, Debug, Drop, PartialEq, Eq)]
+pub enum AsmFault {
+    /// A word on this line names no instruction.
+    UnknownName { line: u32 },
+    /// The instruction after the 20,000th stands on this line.
+    TooLong { line: u32 },
+    /// The listing has no word.
+    Empty,
+    /// Want of memory.
+    OutOfMemory,
+}
+
+impl<T: Drop> From<AllocFailed<T>> for AsmFault {
+    ghost from_gives = { λ _ e. e ≡ OutOfMemory };
+
+    fn from(_: AllocFailed<T>) -> AsmFault {
+        AsmFault::OutOfMemory
+    }
+}
+
+/// The code of a listing: the instruction of each word, in order.
+///
+/// A listing has 1 to 20,000 words, which stand as `Words` tells, each the lower-case name of an instruction. The
+/// first word that is one too many or no name gives the fault.
+pub fn assemble(alloc: Global, text: &str) -> Result<Code, AsmFault>
+    ensures code { IfOk result (λ code. listing_of text.now ≡ Ok code) }
+    ensures fault { IfErr result (λ fault. (fault ≡ AsmFault.OutOfMemory) ⊎ (listing_of text.now ≡ Err fault)) }
+    ensures range { IfOk result IsCode }
+{
+    let mut items = Vec::new(alloc);
+    for word in Words::of(text) {
+        if items.len() == MOST_INSTRUCTIONS {
+            return Err(AsmFault::TooLong { line: word.line });
+        }
+        let Some(op) = by_name(word.text) else {
+            return Err(AsmFault::UnknownName { line: word.line });
+        };
+        items.push(code(op))?;
+    }
+    if items.is_empty() {
+        return Err(AsmFault::Empty);
+    }
+    Ok(Code { items })
+}
+
+#[cfg(test)]
+mod tests;
