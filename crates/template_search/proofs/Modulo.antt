@@ -1,0 +1,6 @@
+-- Places in the ring.
+use Rattle.std.proofs.Common.{◌≡◌, ℕ, ◌+◌, ◌%◌, ◌∙◌, ap, sym}
+use Rattle.std.proofs.Math.Nat.{mod-add-mod}
+
+pub mod-step : (n p q : ℕ) → p % n ≡ q % n → (p + 1) % n ≡ (q + 1) % n
+mod-step n p q e = sym (mod-add-mod p n 1) ∙ ap (λ (k : ℕ). (k + 1) % n) e ∙ mod-add-mod q n 1

@@ -1,0 +1,57 @@
+//! Templates and their complements.
+
+ghost use Rattle.std.specs.Prelude.{◌≡◌, ◌<◌, ◌≤◌, length, take};
+ghost use Rattle.tierra_model.specs.Look.{Passes};
+ghost use Rattle.tierra_model.specs.Search.{compare, read_template};
+
+use crate::places::next_place;
+use tierra_model::View;
+
+/// The first `len` of `cells`, which hold nops.
+#[derive(Clone, Copy, Drop)]
+pub struct Template {
+    pub cells: [u8; 10],
+    pub len: u32,
+    pub ghost short: { len ≤ 10 },
+}
+
+/// The template in the cells from `start` on.
+#[tactic(auto, using(crate::proofs::Reading::reading))]
+pub fn read_template<V: View>(view: &mut V, start: u32, size: u32) -> Template
+    requires start { start < size }
+    requires size { size ≡ V.size view.old }
+    ensures passes { Passes V.cells V.looked (read_template size 10 start) view.old view.new (take result.len result.cells) }
+    ensures len { length (take result.len result.cells) ≡ result.len }
+    ensures same { V.size view.new ≡ size }
+{
+    let mut cells = [0; 10];
+    let mut place = start;
+    for len in 0..10 {
+        let cell = view.get(place);
+        if cell >= 2 {
+            return Template { cells, len };
+        }
+        cells[len as usize] = cell;
+        place = next_place(place, size);
+    }
+    Template { cells, len: 10 }
+}
+
+/// Whether the cells from `start` on hold 1 where the template has 0, and 0 where it has 1.
+#[tactic(auto, using(crate::proofs::Comparing::comparing))]
+pub fn is_complement<V: View>(view: &mut V, nops: &[u8], start: u32, size: u32) -> bool
+    requires start { start < size }
+    requires size { size ≡ V.size view.old }
+    ensures passes { Passes V.cells V.looked (compare size nops.now start) view.old view.new result }
+    ensures same { V.size view.new ≡ size }
+{
+    let mut place = start;
+    for nop in nops {
+        let cell = view.get(place);
+        if u16::from(*nop) + u16::from(cell) != 1 {
+            return false;
+        }
+        place = next_place(place, size);
+    }
+    true
+}

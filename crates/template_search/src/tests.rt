@@ -1,0 +1,232 @@
+//! Searches in a small soup that counts the looks.
+
+ghost use Rattle.std.specs.Prelude.{◌≡◌, ◌≤◌, ◌<◌, IfOk, length};
+
+use crate::{Found, Way, search};
+use std::alloc::{AllocError, Global};
+use std::marker::Model;
+use std::test::Fail;
+use tierra_model::View;
+
+#[derive(Drop)]
+struct Flat {
+    cells: Vec<u8>,
+    looks: u64,
+}
+
+impl Model for Flat {
+    ghost use Rattle.std.specs.Prelude.{List, ℕ, vec_len, ◌≤◌};
+
+    // what the cells hold, and how often they were looked at
+    ghost Value = { List ℕ × ℕ };
+
+    ghost view = { λ v. (v.cells.items, v.looks) };
+
+    ghost invariant = { λ v. vec_len v.cells ≤ 1048576 };
+}
+
+impl Flat {
+    fn put(&mut self, at: u32, value: u8)
+        ensures { length self.new.0 ≡ length self.old.0 }
+    {
+        if let Some(cell) = self.cells.get_mut(at as usize) {
+            *cell = value;
+        }
+    }
+}
+
+impl View for Flat {
+    ghost use Rattle.std.specs.Prelude.{◌+◌, ◌%◌, ◌^◌, true, length, slice_index, slice_set};
+    ghost use Rattle.std.proofs.Common.{arith, get_or-set_other, length-set, refl};
+    ghost use Rattle.std.proofs.lemmas.Grind.{get_or-set_at};
+    ghost use Rattle.std.proofs.lemmas.Bool.Decides.{nat_tests};
+
+    ghost size = { λ v. length v.0 };
+
+    ghost cells = { λ v p. slice_index v.0 p };
+
+    ghost writable = { λ v p. true };
+
+    ghost looked = { λ v p. (v.0, (v.1 + 1) % 2 ^ 64) };
+
+    ghost written = { λ v p x. (slice_set v.0 p x, v.1) };
+
+    ghost look_keeps_size = { λ v p. refl };
+
+    ghost look_keeps_cells = { λ v p q. refl };
+
+    ghost look_keeps_writable = { λ v p q. refl };
+
+    ghost write_keeps_size = { λ v p x _ _ _. length-set v.0 p x };
+
+    ghost write_sets_cell = { λ v p x q here _ _ there. Prim.grind (arith, nat_tests, get_or-set_at, get_or-set_other) };
+
+    ghost write_keeps_writable = { λ v p x q _ _ _. refl };
+
+    fn size(&self) -> u32 {
+        self.cells.len() as u32
+    }
+
+    fn get(&mut self, at: u32) -> u8 {
+        self.looks = self.looks.wrapping_add(1);
+        self.cells[at as usize]
+    }
+
+    fn may_write(&self, at: u32) -> bool {
+        true
+    }
+
+    fn set(&mut self, at: u32, value: u8) {
+        self.cells[at as usize] = value;
+    }
+}
+
+// so many cells of 08, which is no nop, but for those listed
+fn soup(alloc: Global, size: u32, nops: &[(u32, u8)]) -> Result<Flat, AllocError>
+    requires { size ≤ 1048576 }
+    ensures { IfOk result (λ v. length v.0 ≡ size) }
+{
+    let cells = vec![in alloc; 8; size as usize]?;
+    let mut soup = Flat { cells, looks: 0 };
+    for (at, nop) in nops {
+        soup.put(*at, *nop);
+    }
+    Ok(soup)
+}
+
+// what a search finds in such a soup, and after how many looks
+fn find(
+    alloc: Global,
+    size: u32,
+    nops: &[(u32, u8)],
+    ip: u32,
+    way: Way,
+    limit: u32,
+    min: u32,
+) -> Result<(Found, u64), AllocError>
+    requires ip { ip < size }
+    requires size { size ≤ 1048576 }
+{
+    let mut soup = soup(alloc, size, nops)?;
+    let found = search(&mut soup, ip, way, limit, min);
+    Ok((found, soup.looks))
+}
+
+#[test]
+fn finds_the_nearest(rt: HostRuntime) -> Result<(), Fail> {
+    let alloc = rt.alloc();
+    let both = &[(9, 0), (6, 1), (11, 1)];
+    assert_eq!(rt;
+        find(alloc, 16, both, 8, Way::Outward, 16, 1)?,
+        (Found::At(12), 5)
+    );
+    assert_eq!(rt;
+        find(alloc, 16, both, 8, Way::Backward, 16, 1)?,
+        (Found::At(7), 4)
+    );
+    assert_eq!(rt;
+        find(alloc, 16, both, 8, Way::Forward, 16, 1)?,
+        (Found::At(12), 4)
+    );
+    assert_eq!(rt;
+        find(alloc, 16, both, 8, Way::Outward, 1, 1)?,
+        (Found::NoMatch, 4)
+    );
+    let none = &[(6, 1), (11, 1)];
+    assert_eq!(rt;
+        find(alloc, 16, none, 8, Way::Outward, 16, 1)?,
+        (Found::Short, 1)
+    );
+    assert_eq!(rt;
+        find(alloc, 16, both, 8, Way::Outward, 16, 2)?,
+        (Found::Short, 2)
+    );
+    let eleven = &[
+        (1, 0),
+        (2, 0),
+        (3, 0),
+        (4, 0),
+        (5, 0),
+        (6, 0),
+        (7, 0),
+        (8, 0),
+        (9, 0),
+        (10, 0),
+        (11, 0),
+        (20, 1),
+        (21, 1),
+        (22, 1),
+        (23, 1),
+        (24, 1),
+        (25, 1),
+        (26, 1),
+        (27, 1),
+        (28, 1),
+        (29, 1),
+    ];
+    assert_eq!(rt;
+        find(alloc, 100, eleven, 0, Way::Outward, 50, 1)?,
+        (Found::At(30), 38)
+    );
+    Ok(())
+}
+
+#[test]
+fn goes_round_the_ring(rt: HostRuntime) -> Result<(), Fail> {
+    let alloc = rt.alloc();
+    let match_across = &[(3, 0), (4, 0), (99, 1), (0, 1)];
+    assert_eq!(rt;
+        find(alloc, 100, match_across, 2, Way::Backward, 50, 1)?,
+        (Found::At(1), 7)
+    );
+    let template_across = &[(99, 0), (0, 1), (50, 1), (51, 0)];
+    assert_eq!(rt;
+        find(alloc, 100, template_across, 98, Way::Outward, 50, 1)?,
+        (Found::At(52), 98)
+    );
+    assert_eq!(rt;
+        find(alloc, 100, template_across, 98, Way::Forward, 50, 1)?,
+        (Found::At(52), 54)
+    );
+    assert_eq!(rt;
+        find(alloc, 100, template_across, 98, Way::Forward, 49, 1)?,
+        (Found::NoMatch, 52)
+    );
+    let match_at_the_end = &[(9, 1), (15, 0)];
+    assert_eq!(rt;
+        find(alloc, 16, match_at_the_end, 8, Way::Forward, 6, 1)?,
+        (Found::At(0), 8)
+    );
+    Ok(())
+}
+
+#[test]
+fn goes_on_to_its_limit(rt: HostRuntime) -> Result<(), Fail> {
+    let alloc = rt.alloc();
+    let own_cell = &[(0, 1), (1, 0)];
+    assert_eq!(rt;
+        find(alloc, 5, own_cell, 0, Way::Forward, 12, 1)?,
+        (Found::At(1), 6)
+    );
+    assert_eq!(rt;
+        find(alloc, 5, own_cell, 0, Way::Forward, 3, 1)?,
+        (Found::NoMatch, 5)
+    );
+    assert_eq!(rt;
+        find(alloc, 5, &[(1, 0)], 0, Way::Outward, 12, 1)?,
+        (Found::NoMatch, 26)
+    );
+    assert_eq!(rt;
+        find(alloc, 1, &[(0, 0)], 0, Way::Outward, 3, 10)?,
+        (Found::NoMatch, 16)
+    );
+    assert_eq!(rt;
+        find(alloc, 1, &[], 0, Way::Outward, 3, 1)?,
+        (Found::Short, 1)
+    );
+    assert_eq!(rt;
+        find(alloc, 100, &[(1, 0)], 0, Way::Outward, 1048576, 1)?,
+        (Found::NoMatch, 2097154)
+    );
+    Ok(())
+}
