@@ -1,0 +1,5 @@
+mod OnlyAt
+mod Moves
+mod Once
+mod Found
+mod Changes

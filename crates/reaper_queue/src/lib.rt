@@ -1,0 +1,7 @@
+//! The reaper: who dies next.
+#![tactic(auto)]
+
+mod hints;
+mod reaper;
+
+pub use reaper::Reaper;
