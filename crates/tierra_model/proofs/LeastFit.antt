@@ -1,8 +1,8 @@
 -- A first fit is at the least address where the cells are free.
-use Rattle.std.proofs.Common.{◌≡◌, ℕ, zero, suc, ◌+◌, ◌-◌, ◌<◌, ◌≤◌, Bool, true, false, cond, Option, Some, None, arith, refl, ap, ◌∙◌, inl, inr}
-use Rattle.std.specs.Prelude.{◌==◌, if◌then◌else◌, ◌⊎◌}
+use Rattle.std.proofs.Common.{◌≡◌, ℕ, zero, suc, ◌+◌, ◌-◌, ◌<◌, ◌≤◌, Bool, true, false, Option, Some, None, arith, refl, ap, ◌∙◌, inl, inr}
+use Rattle.std.specs.Prelude.{if◌then◌else◌}
 use Rattle.std.proofs.lemmas.Bool.Decides.{nat_tests, eqb_tells}
-use Rattle.tierra_model.specs.Room.{count_from, are_free, first_fit_from, first_fit, HasRoom, IsFit, FirstFitIsLeast}
+use Rattle.tierra_model.specs.Room.{count_from, are_free, first_fit_from, first_fit, IsFit, FirstFitIsLeast}
 
 -- each of the k cells from p on is free
 abbrev AllFree : (ℕ → Bool) → ℕ → ℕ → Type 0
