@@ -5,4 +5,5 @@ mod Alone
 mod OneStep
 mod LoneSoup
 mod Built
+mod Accepted
 mod Causes

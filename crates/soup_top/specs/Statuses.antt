@@ -3,6 +3,10 @@ use Rattle.std.specs.Prelude.{ℕ, List, [], ◌++◌, codes}
 use Rattle.std.specs.Fmt.{decimal}
 use Rattle.tierra_asm.specs.declared.AsmFault.{AsmFault}
 use Rattle.tierra_asm.specs.declared.AsmFault.TheVariants as asm
+use Rattle.tierra_dis.specs.declared.hex_text.HexFault.{HexFault}
+use Rattle.tierra_dis.specs.declared.hex_text.HexFault.TheVariants as hex
+use Rattle.tierra_dis.specs.declared.disassembly.DisFault.{DisFault}
+use Rattle.tierra_dis.specs.declared.disassembly.DisFault.TheVariants as dis
 use Rattle.soup_top.specs.declared.status.SourceFault.{SourceFault}
 use Rattle.soup_top.specs.declared.status.SourceFault.TheVariants as fault
 use Rattle.soup_top.specs.declared.status.Status.{Status}
@@ -22,15 +26,27 @@ listing_line (asm.TooLong line) = codes "line " ++ decimal line ++ codes ": more
 listing_line asm.Empty = codes "listing is empty"
 listing_line asm.OutOfMemory = codes "out of memory"
 
+abbrev pub hex_line : HexFault → List ℕ
+hex_line (hex.NotHex place) = codes "word " ++ decimal place ++ codes ": not two hexadecimal digits"
+hex_line hex.TooLong = codes "more than 20000 instructions"
+hex_line hex.Empty = codes "no instructions"
+hex_line hex.OutOfMemory = codes "out of memory"
+
+abbrev pub dis_line : DisFault → List ℕ
+dis_line (dis.NotAnOp place) = codes "word " ++ decimal place ++ codes ": not an instruction"
+dis_line dis.OutOfMemory = codes "out of memory"
+
 abbrev pub source_line : SourceFault → List ℕ
 source_line fault.TooLong = codes "source is longer than 1048576 bytes"
 source_line fault.NotText = codes "source is not UTF-8"
 source_line (fault.Listing f) = listing_line f
+source_line (fault.Hex f) = hex_line f
+source_line (fault.Dis f) = dis_line f
 source_line (fault.NotBuilt place) = codes "instruction " ++ decimal place ++ codes " is not built"
 
 abbrev pub status_line : Status → List ℕ
 status_line status.Done = []
-status_line status.WordsRefused = codes "usage: tierra grow [--quanta N] [--workers W]"
+status_line status.WordsRefused = codes "usage: tierra grow|asm|dis [--quanta N] [--workers W]"
 status_line (status.SourceRefused f) = source_line f
 status_line status.ReadFault = codes "cannot read the source"
 status_line status.TellFault = codes "cannot write the output"

@@ -1,10 +1,11 @@
 //! What a call of the program answers, and what it writes to standard error.
 
 ghost use Rattle.std.specs.Prelude.{◌≡◌, IfOk, string_bytes};
-ghost use Rattle.soup_top.specs.Statuses.{number_of, status_line, source_line, listing_line, status_text};
+ghost use Rattle.soup_top.specs.Statuses.{number_of, status_line, source_line, listing_line, hex_line, dis_line, status_text};
 
 use std::alloc::Global;
 use tierra_asm::AsmFault;
+use tierra_dis::{DisFault, HexFault};
 use tierra_model::{OutOfMemory, Text};
 
 /// Why a source was refused.
@@ -16,6 +17,10 @@ pub enum SourceFault {
     NotText,
     /// It is no listing.
     Listing(AsmFault),
+    /// It is no hex text.
+    Hex(HexFault),
+    /// It has a byte that is no instruction.
+    Dis(DisFault),
     /// The instruction at this place, counted from 1, does not run yet.
     NotBuilt { place: u32 },
 }
@@ -60,6 +65,28 @@ fn listing_text(alloc: Global, fault: AsmFault) -> Result<String, OutOfMemory>
     }
 }
 
+fn hex_text(alloc: Global, fault: HexFault) -> Result<String, OutOfMemory>
+    ensures { IfOk result (λ text. string_bytes text ≡ hex_line fault) }
+{
+    match fault {
+        HexFault::NotHex { place } => {
+            format!(in alloc; "word {place}: not two hexadecimal digits")
+        }
+        HexFault::TooLong => String::from_str(alloc, "more than 20000 instructions"),
+        HexFault::Empty => String::from_str(alloc, "no instructions"),
+        HexFault::OutOfMemory => String::from_str(alloc, "out of memory"),
+    }
+}
+
+fn dis_text(alloc: Global, fault: DisFault) -> Result<String, OutOfMemory>
+    ensures { IfOk result (λ text. string_bytes text ≡ dis_line fault) }
+{
+    match fault {
+        DisFault::NotAnOp { place } => format!(in alloc; "word {place}: not an instruction"),
+        DisFault::OutOfMemory => String::from_str(alloc, "out of memory"),
+    }
+}
+
 fn source_text(alloc: Global, fault: SourceFault) -> Result<String, OutOfMemory>
     ensures { IfOk result (λ text. string_bytes text ≡ source_line fault) }
 {
@@ -67,6 +94,8 @@ fn source_text(alloc: Global, fault: SourceFault) -> Result<String, OutOfMemory>
         SourceFault::TooLong => String::from_str(alloc, "source is longer than 1048576 bytes"),
         SourceFault::NotText => String::from_str(alloc, "source is not UTF-8"),
         SourceFault::Listing(fault) => listing_text(alloc, fault),
+        SourceFault::Hex(fault) => hex_text(alloc, fault),
+        SourceFault::Dis(fault) => dis_text(alloc, fault),
         SourceFault::NotBuilt { place } => { format!(in alloc; "instruction {place} is not built") }
     }
 }
@@ -77,7 +106,10 @@ fn reason(alloc: Global, status: &Status) -> Result<String, OutOfMemory>
     match *status {
         Status::Done => Ok(String::new(alloc)),
         Status::WordsRefused => {
-            String::from_str(alloc, "usage: tierra grow [--quanta N] [--workers W]")
+            String::from_str(
+                alloc,
+                "usage: tierra grow|asm|dis [--quanta N] [--workers W]",
+            )
         }
         Status::SourceRefused(fault) => source_text(alloc, fault),
         Status::ReadFault => String::from_str(alloc, "cannot read the source"),

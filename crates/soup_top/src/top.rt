@@ -1,22 +1,24 @@
 //! The call that does all that the program does.
 
-ghost use Rattle.std.specs.Prelude.{◌≡◌, ◌⊎◌, ◌+◌, ◌<◌, ◌≤◌, ◌++◌, ℕ, List, [], Some, IfOk, IfErr, IfSome, OnOk, length, map, not, position, take, string_bytes};
+ghost use Rattle.std.specs.Prelude.{IsUtf8, ◌≡◌, ◌⊎◌, ◌+◌, ◌<◌, ◌≤◌, ◌++◌, ℕ, List, [], Some, IfOk, IfErr, IfSome, OnOk, length, map, not, position, take, string_bytes};
 ghost use Rattle.std.specs.List.{AllPass};
 ghost use Rattle.tierra_model.specs.Ranges.{IsCode};
 ghost use Rattle.soup_top.specs.Lone.{is_built};
-ghost use Rattle.soup_top.specs.Words.{AsksFor};
-ghost use Rattle.soup_top.specs.Sources.{IsListing, Refused, first_unbuilt, grow_text};
-ghost use Rattle.soup_top.specs.Answers.{Cause, Told, IsTextOfRun, OnDone, OnReadWhole, RefusesSource, UnlessReadFault, UnlessTellFault, UnlessTold, IsToldInPart};
+ghost use Rattle.tierra_asm.specs.Listing.{listing_of};
+ghost use Rattle.soup_top.specs.Words.{IsOrder};
+ghost use Rattle.soup_top.specs.Sources.{IsTextOf, first_unbuilt, grow_text};
+ghost use Rattle.soup_top.specs.Answers.{Cause, Told, IsTextAsked, OnDone, OnReadWhole, RefusesSource, UnlessReadFault, UnlessTellFault, UnlessTold, IsToldInPart};
 
 use crate::head::{Counts, add_counts, add_front};
 use crate::lone::run_lone;
 use crate::reading::{ReadStop, read_whole};
 use crate::status::{SourceFault, Status};
-use crate::words::quanta_asked;
+use crate::words::{Order, order_asked};
 use desk_io::{Desk, Source};
 use std::alloc::Global;
 use tierra_asm::{AsmFault, assemble};
-use tierra_model::{Code, OutOfMemory};
+use tierra_dis::{DisFault, HexFault, disassemble, hex_line, read_hex};
+use tierra_model::{Code, OutOfMemory, Text};
 
 /// The most bytes that a source may have.
 const MOST_BYTES: usize = 1_048_576;
@@ -46,33 +48,36 @@ fn unbuilt(code: &[u8]) -> Option<u32>
     }
 }
 
-/// The code of a listing whose instructions all run.
-fn code_from(alloc: Global, bytes: &[u8]) -> Result<Code, Status>
-    requires { length bytes.now ≤ 1048576 }
-    ensures code { IfOk result (IsListing bytes.now) }
-    ensures range { IfOk result IsCode }
-    ensures refused { IfErr result (RefusesSource bytes.now) }
+/// The bytes as a text.
+fn text_from(bytes: &[u8]) -> Result<&str, Status>
+    ensures text { IfOk result (λ text. (text.now ≡ bytes.now) × IsUtf8 bytes.now) }
+    ensures refused { IfErr result (λ s. (s ≡ Status.SourceRefused SourceFault.NotText) × (IsUtf8 bytes.now → ⊥)) }
 {
-    let Ok(text) = str::from_utf8(bytes) else {
-        return Err(Status::SourceRefused(SourceFault::NotText));
-    };
-    let code = match assemble(alloc, text) {
-        Ok(code) => code,
-        Err(AsmFault::OutOfMemory) => return Err(Status::OutOfMemory),
-        Err(fault) => return Err(Status::SourceRefused(SourceFault::Listing(fault))),
-    };
-    match unbuilt(&code.items) {
-        Some(place) => Err(Status::SourceRefused(SourceFault::NotBuilt { place })),
-        None => Ok(code),
+    match str::from_utf8(bytes) {
+        Ok(text) => Ok(text),
+        Err(_) => Err(Status::SourceRefused(SourceFault::NotText)),
+    }
+}
+
+/// The code of a listing.
+fn code_from(alloc: Global, text: &str) -> Result<Code, Status>
+    ensures code { IfOk result (λ code. listing_of text.now ≡ Ok code) }
+    ensures range { IfOk result IsCode }
+    ensures refused { IfErr result (λ s. (s ≡ Status.OutOfMemory) ⊎ ((f : AsmFault) × (s ≡ Status.SourceRefused (SourceFault.Listing f)) × (listing_of text.now ≡ Err f))) }
+{
+    match assemble(alloc, text) {
+        Ok(code) => Ok(code),
+        Err(AsmFault::OutOfMemory) => Err(Status::OutOfMemory),
+        Err(fault) => Err(Status::SourceRefused(SourceFault::Listing(fault))),
     }
 }
 
 /// What a run of the code tells.
-fn run_text(alloc: Global, code: &[u8], quanta: u64) -> Result<String, OutOfMemory>
+fn run_text(alloc: Global, code: &[u8], quanta: u64) -> Result<Text, OutOfMemory>
     requires code { IsCode code.now }
     requires built { AllPass is_built code.now }
     requires few { quanta ≤ 4000000 }
-    ensures { IfOk result (λ text. string_bytes text ≡ grow_text code.now quanta) }
+    ensures { IfOk result (λ text. text ≡ grow_text code.now quanta) }
 {
     let creature = run_lone(alloc, code, quanta)?;
     let counts = Counts {
@@ -85,13 +90,89 @@ fn run_text(alloc: Global, code: &[u8], quanta: u64) -> Result<String, OutOfMemo
     let mut text = String::new(alloc);
     add_counts(&mut text, counts)?;
     add_front(&mut text, &creature)?;
-    Ok(text)
+    Ok(Text {
+        items: text.into_bytes(),
+    })
 }
 
-/// The text that a run tells, after the words and the whole source were read.
-fn text_of_run<S: Source>(alloc: Global, words: &[String], source: &mut S) -> Result<String, Status>
+/// What a run of the listing tells.
+fn grow(alloc: Global, bytes: &[u8], quanta: u64) -> Result<Text, Status>
+    requires short { length bytes.now ≤ 1048576 }
+    requires few { quanta ≤ 4000000 }
+    ensures text { IfOk result (IsTextOf (Order.Grow quanta) bytes.now) }
+    ensures refused { IfErr result (RefusesSource (Order.Grow quanta) bytes.now) }
+{
+    let text = match text_from(bytes) {
+        Ok(text) => text,
+        Err(status) => return Err(status),
+    };
+    let code = code_from(alloc, text)?;
+    match unbuilt(&code.items) {
+        Some(place) => Err(Status::SourceRefused(SourceFault::NotBuilt { place })),
+        None => match run_text(alloc, &code.items, quanta) {
+            Ok(text) => Ok(text),
+            Err(_) => Err(Status::OutOfMemory),
+        },
+    }
+}
+
+/// The hex line of the listing.
+fn asm(alloc: Global, bytes: &[u8]) -> Result<Text, Status>
+    requires short { length bytes.now ≤ 1048576 }
+    ensures text { IfOk result (IsTextOf Order.Asm bytes.now) }
+    ensures refused { IfErr result (RefusesSource Order.Asm bytes.now) }
+{
+    let text = match text_from(bytes) {
+        Ok(text) => text,
+        Err(status) => return Err(status),
+    };
+    let code = code_from(alloc, text)?;
+    match hex_line(alloc, &code.items) {
+        Ok(text) => Ok(text),
+        Err(_) => Err(Status::OutOfMemory),
+    }
+}
+
+/// The listing of the hex text.
+fn dis(alloc: Global, bytes: &[u8]) -> Result<Text, Status>
+    requires short { length bytes.now ≤ 1048576 }
+    ensures text { IfOk result (IsTextOf Order.Dis bytes.now) }
+    ensures refused { IfErr result (RefusesSource Order.Dis bytes.now) }
+{
+    let text = match text_from(bytes) {
+        Ok(text) => text,
+        Err(status) => return Err(status),
+    };
+    let code = match read_hex(alloc, text) {
+        Ok(code) => code,
+        Err(HexFault::OutOfMemory) => return Err(Status::OutOfMemory),
+        Err(fault) => return Err(Status::SourceRefused(SourceFault::Hex(fault))),
+    };
+    match disassemble(alloc, &code.items) {
+        Ok(text) => Ok(text),
+        Err(DisFault::OutOfMemory) => Err(Status::OutOfMemory),
+        Err(fault) => Err(Status::SourceRefused(SourceFault::Dis(fault))),
+    }
+}
+
+/// What is to be told of the bytes.
+fn text_of(alloc: Global, order: Order, bytes: &[u8]) -> Result<Text, Status>
+    requires short { length bytes.now ≤ 1048576 }
+    requires few { IsOrder order }
+    ensures text { IfOk result (IsTextOf order bytes.now) }
+    ensures refused { IfErr result (RefusesSource order bytes.now) }
+{
+    match order {
+        Order::Grow { quanta } => grow(alloc, bytes, quanta),
+        Order::Asm => asm(alloc, bytes),
+        Order::Dis => dis(alloc, bytes),
+    }
+}
+
+/// The text that is to be told, after the words and the whole source were read.
+fn text_asked<S: Source>(alloc: Global, words: &[String], source: &mut S) -> Result<Text, Status>
     requires { S.faults source.old ≡ 0 }
-    ensures text { IfOk result (λ text. IfSome (S.left source.old) (λ bytes. IsTextOfRun (map string_bytes words.now) bytes (string_bytes text))) }
+    ensures text { IfOk result (λ text. IfSome (S.left source.old) (λ bytes. IsTextAsked (map string_bytes words.now) bytes text)) }
     ensures cause { IfErr result (Cause (map string_bytes words.now) (S.left source.old) (0 < S.faults source.new) ⊥) }
     ensures not_done { IfErr result (λ s. OnDone s ⊥) }
     ensures to_its_end { IfOk result (λ text. IfSome (S.left source.old) (λ bytes. S.left source.new ≡ Some [])) }
@@ -100,8 +181,8 @@ fn text_of_run<S: Source>(alloc: Global, words: &[String], source: &mut S) -> Re
     ensures steady { OnOk result (S.faults source.new ≡ 0) }
     ensures steady_otherwise { IfErr result (λ s. UnlessReadFault s (S.faults source.new ≡ 0)) }
 {
-    let quanta = match quanta_asked(alloc, words) {
-        Ok(Some(quanta)) => quanta,
+    let order = match order_asked(alloc, words) {
+        Ok(Some(order)) => order,
         Ok(None) => return Err(Status::WordsRefused),
         Err(_) => return Err(Status::OutOfMemory),
     };
@@ -111,14 +192,10 @@ fn text_of_run<S: Source>(alloc: Global, words: &[String], source: &mut S) -> Re
         Err(ReadStop::Failed) => return Err(Status::ReadFault),
         Err(ReadStop::OutOfMemory) => return Err(Status::OutOfMemory),
     };
-    let code = code_from(alloc, &bytes)?;
-    match run_text(alloc, &code.items, quanta) {
-        Ok(text) => Ok(text),
-        Err(_) => Err(Status::OutOfMemory),
-    }
+    text_of(alloc, order, &bytes)
 }
 
-/// Does all that the program does: reads the words and the source, runs the listing's creature, and tells the report.
+/// Does all that the program does: reads the words and the source, and tells what they ask for.
 pub fn tierra<S: Source, D: Desk>(
     alloc: Global,
     words: &Vec<String>,
@@ -128,16 +205,16 @@ pub fn tierra<S: Source, D: Desk>(
     requires source_sound { S.faults source.old ≡ 0 }
     requires desk_sound { D.tell_faults desk.old ≡ 0 }
 
-    // Done tells the whole text of the run, and nothing else.
-    ensures done { OnDone result (IfSome (S.left source.old) (λ bytes. (text : List ℕ) × IsTextOfRun (map string_bytes words.now.items) bytes text × Told (D.told desk.old) text (D.told desk.new))) }
+    // Done tells the whole text, and nothing else.
+    ensures done { OnDone result (IfSome (S.left source.old) (λ bytes. (text : List ℕ) × IsTextAsked (map string_bytes words.now.items) bytes text × Told (D.told desk.old) text (D.told desk.new))) }
 
     // Each answer has its cause.
     ensures cause { Cause (map string_bytes words.now.items) (S.left source.old) (S.faults source.old < S.faults source.new) (D.tell_faults desk.old < D.tell_faults desk.new) result }
 
-    // Without a fault, words and bytes that ask for a run give Done, or want of memory.
-    ensures complete { (bytes text : List ℕ) → S.left source.old ≡ Some bytes → IsTextOfRun (map string_bytes words.now.items) bytes text → S.faults source.new ≡ 0 → D.tell_faults desk.new ≡ 0 → (result ≡ Status.Done) ⊎ (result ≡ Status.OutOfMemory) }
+    // Without a fault, accepted words and bytes give Done, or want of memory.
+    ensures complete { (bytes text : List ℕ) → S.left source.old ≡ Some bytes → IsTextAsked (map string_bytes words.now.items) bytes text → S.faults source.new ≡ 0 → D.tell_faults desk.new ≡ 0 → (result ≡ Status.Done) ⊎ (result ≡ Status.OutOfMemory) }
 
-    // Whatever comes, what was told begins the text of the run; before the run nothing was told.
+    // Whatever comes, what was told begins that text; with a refusal or a read that failed nothing was told.
     ensures prefix { IfSome (S.left source.old) (λ bytes. IsToldInPart (map string_bytes words.now.items) bytes (D.told desk.old) (D.told desk.new)) }
     ensures untouched { UnlessTold result (desk.new ≡ desk.old) }
 
@@ -149,8 +226,8 @@ pub fn tierra<S: Source, D: Desk>(
     ensures source_steady { UnlessReadFault result (S.faults source.new ≡ 0) }
     ensures desk_steady { UnlessTellFault result (D.tell_faults desk.new ≡ 0) }
 {
-    match text_of_run(alloc, words, source) {
-        Ok(text) => match desk.tell(text.as_bytes()) {
+    match text_asked(alloc, words, source) {
+        Ok(text) => match desk.tell(&text.items) {
             Ok(()) => Status::Done,
             Err(_) => Status::TellFault,
         },

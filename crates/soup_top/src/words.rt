@@ -1,13 +1,24 @@
 //! The words of the command line.
 
-ghost use Rattle.std.specs.Prelude.{◌≡◌, ◌<◌, ◌^◌, ℕ, IfOk, MatchOption, map, string_bytes};
+ghost use Rattle.std.specs.Prelude.{◌↔◌, IsTrue, [], ◌∷◌, ◌≡◌, ◌<◌, ◌^◌, ℕ, IfOk, MatchOption, map, string_bytes};
 ghost use Rattle.std.specs.Fmt.{decimal};
-ghost use Rattle.soup_top.specs.Words.{IsQuanta, AsksFor};
+ghost use Rattle.soup_top.specs.Words.{IsQuanta, AsksForRun, AsksFor, AskForNothing, IsOrder};
 
 use std::alloc::Global;
 use tierra_model::OutOfMemory;
 
 const MOST_QUANTA: u64 = 4_000_000;
+
+/// What the words ask for.
+#[derive(Clone, Copy, Debug, Drop, PartialEq, Eq)]
+pub(crate) enum Order {
+    /// A run of the listing's creature.
+    Grow { quanta: u64 },
+    /// The hexadecimal digits of a listing.
+    Asm,
+    /// The listing of hexadecimal digits.
+    Dis,
+}
 
 /// The number that a text spells, in decimal digits without a sign or a leading zero.
 fn number_from(alloc: Global, text: &str) -> Result<Option<u64>, OutOfMemory>
@@ -38,9 +49,9 @@ fn quanta_from(alloc: Global, word: &str) -> Result<Option<u64>, OutOfMemory>
     }
 }
 
-/// The quanta that the words ask for.
-pub(crate) fn quanta_asked(alloc: Global, words: &[String]) -> Result<Option<u64>, OutOfMemory>
-    ensures { IfOk result (λ found. MatchOption found ((n : ℕ) → AsksFor (map string_bytes words.now) n → ⊥) (AsksFor (map string_bytes words.now))) }
+/// The quanta that the words of a run ask for.
+fn quanta_asked(alloc: Global, words: &[String]) -> Result<Option<u64>, OutOfMemory>
+    ensures { IfOk result (λ found. MatchOption found ((n : ℕ) → AsksForRun (map string_bytes words.now) n → ⊥) (AsksForRun (map string_bytes words.now))) }
 {
     match words {
         [action] if action.as_str() == "grow" => Ok(Some(1000)),
@@ -53,5 +64,31 @@ pub(crate) fn quanta_asked(alloc: Global, words: &[String]) -> Result<Option<u64
                 && other.as_str() == "--workers"
                 && workers.as_str() == "1" => { quanta_from(alloc, number.as_str()) }
         _ => Ok(None),
+    }
+}
+
+/// Whether this is the only word.
+fn is_only_word(words: &[String], text: &str) -> bool
+    ensures { IsTrue result ↔ (map string_bytes words.now ≡ text.now ∷ []) }
+{
+    match words {
+        [word] => word.as_str() == text,
+        _ => false,
+    }
+}
+
+/// What the words ask for.
+pub(crate) fn order_asked(alloc: Global, words: &[String]) -> Result<Option<Order>, OutOfMemory>
+    ensures { IfOk result (λ found. MatchOption found (AskForNothing (map string_bytes words.now)) (λ o. AsksFor (map string_bytes words.now) o × IsOrder o)) }
+{
+    if is_only_word(words, "asm") {
+        return Ok(Some(Order::Asm));
+    }
+    if is_only_word(words, "dis") {
+        return Ok(Some(Order::Dis));
+    }
+    match quanta_asked(alloc, words)? {
+        Some(quanta) => Ok(Some(Order::Grow { quanta })),
+        None => Ok(None),
     }
 }

@@ -88,7 +88,7 @@ record HasBlankFront (text : List ℕ) : Type 0 where
   split : slice_split is_line_feed text ≡ line ∷ lines
   blank : slice_split is_separator (before_first begins_comment line) ≡ [] ∷ parts
 
--- so it is at a byte that is in no word
+-- so it is at the end, or at a byte that is in no word
 word_end : (text : List ℕ) → IsAtPass ends_word text → HasBlankFront text
 word_end [] ends = record { line = []; lines = []; parts = []; split = refl; blank = refl }
 word_end (b ∷ text) ends =

@@ -1,4 +1,4 @@
 mod Parts
-mod Fronts
+pub mod Fronts
 mod Cuts
 pub mod Reading

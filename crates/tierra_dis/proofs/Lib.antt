@@ -1,0 +1,4 @@
+mod Lines
+mod Digits
+mod Table
+mod ReadBack

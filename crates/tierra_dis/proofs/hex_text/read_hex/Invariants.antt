@@ -1,0 +1,14 @@
+use Rattle.std.proofs.Common.{◌≤◌, vec_len}
+use Rattle.tierra_asm.specs.Words.{words_of}
+use Rattle.tierra_asm.proofs.Reading.{IsRead}
+use Rattle.tierra_dis.specs.HexText.{byte_at}
+use Rattle.tierra_dis.proofs.hex_text.read_hex.Given as goal
+
+abbrev pub invariant-loop-word : goal.invariant-loop-word
+invariant-loop-word l =
+    record {
+      can : (goal.iterator-loop-word).can_next l.word-iterator;
+      finite : (goal.iterator-loop-word).is_finite l.word-iterator;
+      read : IsRead byte_at (words_of l.text) l.items.items l.word-iterator;
+      few : vec_len l.items ≤ 20000;
+    }

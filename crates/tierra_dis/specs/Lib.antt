@@ -1,0 +1,3 @@
+pub mod Disassembly
+pub mod HexText
+pub mod Laws
