@@ -223,11 +223,24 @@ fn texts_are_refused_for_their_first_fault(rt: HostRuntime) -> Result<(), Fail> 
     Ok(())
 }
 
+/// Whether the words refuse the text for the fault, with the reason on one line.
+fn is_refused(
+    alloc: Global,
+    words: &str,
+    text: &str,
+    fault: SourceFault,
+    reason: &str,
+) -> Result<bool, Fail> {
+    let (answer, line) = refusal(alloc, words, text.as_bytes())?;
+    let told = format!(in alloc; "tierra: {reason}\n")?;
+    Ok(answer == Status::SourceRefused(fault) && line.items.as_slice() == told.as_bytes())
+}
+
 #[test]
-fn codes_are_refused_for_their_first_fault(rt: HostRuntime) -> Result<(), Fail> {
+fn listings_are_refused_for_their_first_fault(rt: HostRuntime) -> Result<(), Fail> {
     let unknown = SourceFault::Listing(AsmFault::UnknownName { line: 2 });
     let empty = SourceFault::Listing(AsmFault::Empty);
-    let rows: [(&str, &str, SourceFault, &str); 9] = [
+    let rows: [(&str, &str, SourceFault, &str); 6] = [
         ("grow", "", empty, "listing is empty"),
         ("grow", "zero\nzoro", unknown, "line 2: unknown instruction"),
         (
@@ -244,34 +257,27 @@ fn codes_are_refused_for_their_first_fault(rt: HostRuntime) -> Result<(), Fail> 
         ),
         ("asm", "zero\nzoro", unknown, "line 2: unknown instruction"),
         ("asm", "; 00", empty, "listing is empty"),
-        (
-            "dis",
-            "1f 0",
-            SourceFault::Hex(HexFault::NotHex { place: 2 }),
-            "word 2: not two hexadecimal digits",
-        ),
-        (
-            "dis",
-            "",
-            SourceFault::Hex(HexFault::Empty),
-            "no instructions",
-        ),
-        (
-            "dis",
-            "20",
-            SourceFault::Dis(DisFault::NotAnOp { place: 1 }),
-            "word 1: not an instruction",
-        ),
     ];
-    for (words, bytes, fault, reason) in rows {
-        let (answer, line) = refusal(rt.alloc(), words, bytes.as_bytes())?;
-        assert_eq!(rt; answer, Status::SourceRefused(fault), "{words} of {bytes}");
-        let text = format!(in rt.alloc(); "tierra: {reason}\n")?;
-        assert_eq!(rt;
-            line.items.as_slice(),
-            text.as_bytes(),
-            "{words} of {bytes}"
-        );
+    for (words, text, fault, reason) in rows {
+        let refused = is_refused(rt.alloc(), words, text, fault, reason)?;
+        assert!(rt; refused, "{words} of {text}");
+    }
+    Ok(())
+}
+
+#[test]
+fn hex_texts_are_refused_for_their_first_fault(rt: HostRuntime) -> Result<(), Fail> {
+    let not_hex = SourceFault::Hex(HexFault::NotHex { place: 2 });
+    let empty = SourceFault::Hex(HexFault::Empty);
+    let not_an_op = SourceFault::Dis(DisFault::NotAnOp { place: 1 });
+    let rows: [(&str, SourceFault, &str); 3] = [
+        ("1f 0", not_hex, "word 2: not two hexadecimal digits"),
+        ("", empty, "no instructions"),
+        ("20", not_an_op, "word 1: not an instruction"),
+    ];
+    for (text, fault, reason) in rows {
+        let refused = is_refused(rt.alloc(), "dis", text, fault, reason)?;
+        assert!(rt; refused, "{text}");
     }
     Ok(())
 }

@@ -14,6 +14,7 @@ pub struct InputSource<I: Read> {
 }
 
 impl<I: Read> InputSource<I> {
+    /// A source of which nothing was read yet.
     pub fn new(input: I) -> InputSource<I>
         ensures { result.faults ≡ 0 }
     {
@@ -59,6 +60,7 @@ pub struct OutputDesk<'r, R: Print> {
 }
 
 impl<'r, R: Print> OutputDesk<'r, R> {
+    /// A desk on which nothing was told yet.
     pub fn new(rt: &'r R) -> OutputDesk<'r, R>
         ensures { result.faults ≡ 0 }
     {

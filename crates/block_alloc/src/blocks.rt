@@ -1,0 +1,163 @@
+//! The block allocator.
+
+ghost use Rattle.std.specs.Prelude.{◌≡◌, ◌+◌, ◌<◌, ◌≤◌, ◌&&◌, ◌||◌, ℕ, IfOk, OnOk, OnErr, Some, false, find, length, nat_le, not, option_map, slice_get, true};
+ghost use Rattle.tierra_model.specs.Blocks.{is_in};
+ghost use Rattle.tierra_model.specs.FreeList.{is_in_some, runs_of};
+ghost use Rattle.tierra_model.specs.Room as room;
+ghost use Rattle.block_alloc.specs.Runs.{AllBelow, AreRuns};
+
+use crate::runs::{put_in, take_out};
+use std::alloc::Global;
+use std::marker::Model;
+use tierra_model::{Block, OutOfMemory};
+
+/// The cells of a soup, each free or owned. A block is taken where it fits at the least address.
+#[derive(Drop)]
+pub struct Blocks {
+    size: u32,
+    // The runs of free cells, in order, none touching the next.
+    free: Vec<Block>,
+    filled: u32,
+}
+
+impl Model for Blocks {
+    ghost use Rattle.std.specs.Prelude.{◌-◌, vec_len};
+    ghost use Rattle.std.specs.Vec.{vec_capacity};
+    ghost use Rattle.block_alloc.specs.Runs.{AreFree};
+    ghost use Rattle.block_alloc.specs.Space.{Space};
+
+    ghost Value = { Space };
+
+    ghost view = { λ b. record { size = b.size; free = b.free.items; spare = vec_capacity b.free - vec_len b.free } };
+
+    ghost invariant = { λ b. AreFree b.size b.filled b.free.items };
+}
+
+impl Blocks {
+    /// All cells are free.
+    pub fn new(alloc: Global, size: u32) -> Result<Blocks, OutOfMemory>
+        ensures size { IfOk result (λ b. b.size ≡ size) }
+        ensures free { IfOk result (λ b. b.free ≡ runs_of size (λ p. true)) }
+    {
+        let mut free = Vec::new(alloc);
+        if size > 0 {
+            free.push(Block { at: 0, size })?;
+        }
+        Ok(Blocks {
+            size,
+            free,
+            filled: 0,
+        })
+    }
+
+    /// The least address of a block of free cells, if there is one of that size.
+    pub fn fit(&self, size: u32) -> Option<u32>
+        requires { 1 ≤ size }
+        ensures { result ≡ room.first_fit self.now.size (λ p. not (is_in_some self.now.free p)) size }
+    {
+        first_long(&self.free, size)
+    }
+
+    /// Makes room for `more` changes, so that they need no memory.
+    pub fn reserve(&mut self, more: u32) -> Result<(), OutOfMemory>
+        ensures free { self.new.free ≡ self.old.free }
+        ensures size { self.new.size ≡ self.old.size }
+        ensures ok { OnOk result (more ≤ self.new.spare) }
+        ensures err { OnErr result (self.old.spare < more) }
+        ensures room { self.old.spare ≤ self.new.spare }
+    {
+        self.free.reserve(more as usize)
+    }
+
+    /// Takes a block of free cells.
+    pub fn take(&mut self, block: Block)
+        requires free { (p : ℕ) → is_in block p ≡ true → is_in_some self.old.free p ≡ true }
+        requires room { 0 < self.old.spare }
+        ensures free { self.new.free ≡ runs_of self.old.size (λ p. is_in_some self.old.free p && not (is_in block p)) }
+        ensures size { self.new.size ≡ self.old.size }
+        ensures room { self.old.spare ≤ self.new.spare + 1 }
+    {
+        take_out(&mut self.free, block);
+        self.filled += block.size;
+    }
+
+    /// Gives a block back, whose cells are then free.
+    pub fn give_back(&mut self, block: Block)
+        requires within { AllBelow self.old.size block }
+        requires owned { (p : ℕ) → is_in block p ≡ true → is_in_some self.old.free p ≡ false }
+        requires room { 0 < self.old.spare }
+        ensures free { self.new.free ≡ runs_of self.old.size (λ p. is_in_some self.old.free p || is_in block p) }
+        ensures size { self.new.size ≡ self.old.size }
+        ensures room { self.old.spare ≤ self.new.spare + 1 }
+    {
+        put_in(&mut self.free, block);
+        self.filled -= block.size;
+    }
+
+    /// How many cells are owned.
+    pub fn filled(&self) -> u32
+        ensures { result ≡ room.filled self.now.size (λ p. not (is_in_some self.now.free p)) }
+    {
+        self.filled
+    }
+
+    /// How many runs of free cells there are.
+    pub fn free_len(&self) -> u32
+        ensures len { result ≡ length self.now.free }
+        ensures runs { AreRuns 0 self.now.size self.now.free }
+    {
+        self.free.len() as u32
+    }
+
+    /// A run of free cells, counted from the lowest.
+    pub fn free_at(&self, place: u32) -> Block
+        requires { place < length self.now.free }
+        ensures { slice_get self.now.free place ≡ Some result }
+    {
+        self.free[place as usize]
+    }
+
+    /// Another allocator with the same free cells.
+    pub fn copy(&self) -> Result<Blocks, OutOfMemory>
+        ensures size { IfOk result (λ b. b.size ≡ self.now.size) }
+        ensures free { IfOk result (λ b. b.free ≡ self.now.free) }
+    {
+        Ok(Blocks {
+            size: self.size,
+            free: self.free.clone()?,
+            filled: self.filled,
+        })
+    }
+}
+
+// The address of the first run of that size or more.
+fn first_long(runs: &[Block], size: u32) -> Option<u32>
+    ensures { result ≡ option_map (λ r. r.at) (find (λ r. nat_le size r.size) runs.now) }
+{
+    runs.iter().find(|run| size <= run.size).map(|run| run.at)
+}
+
+#[cfg(test)]
+mod tests {
+    use super::*;
+    use std::test::Fail;
+
+    #[test]
+    fn returned_blocks_are_merged(rt: HostRuntime) -> Result<(), Fail> {
+        let mut blocks = Blocks::new(rt.alloc(), 100)?;
+        blocks.reserve(5)?;
+        blocks.take(Block { at: 0, size: 40 });
+        blocks.take(Block { at: 40, size: 10 });
+        blocks.take(Block { at: 50, size: 40 });
+        blocks.give_back(Block { at: 40, size: 10 });
+        assert_eq!(rt; blocks.fit(20), None);
+        assert_eq!(rt; blocks.fit(10), Some(40));
+        assert_eq!(rt; blocks.filled(), 80);
+        let copy = blocks.copy()?;
+        blocks.give_back(Block { at: 50, size: 40 });
+        assert_eq!(rt; blocks.fit(60), Some(40));
+        assert_eq!(rt; (copy.free_len(), copy.filled()), (2, 80));
+        assert_eq!(rt; copy.free_at(1), Block { at: 90, size: 10 });
+        Ok(())
+    }
+}

@@ -1,0 +1,8 @@
+mod Births
+mod Digits
+mod Ranks
+mod ReadBack
+mod Sizes
+mod Spelling
+mod Words
+mod Writes

@@ -1,0 +1,2 @@
+pub mod Genotypes
+pub mod Names
