@@ -1,0 +1,67 @@
+use Rattle.std.proofs.Common.{rules, arith, ◌≡◌, ◌-◌, refl, ap, sym}
+use Rattle.turn_lock.specs.Summaries.{summary_of}
+use Rattle.turn_lock.specs.Mirrors.{view_of, seat_of}
+use Rattle.turn_lock.proofs.Returning.{commits_inside, place_inside, place_is, count_fits, mirrors_given, given_back, given_back_as, publish_allowed, pass_allowed, given_views}
+use Rattle.turn_lock.proofs.lock.TurnLock.give.Goals as goal
+
+pub overflow_add-own : goal.overflow_add-own
+overflow_add-own g c =
+    let x = summary_of g.T.Kept.setup g.T.Kept.committed g.T.Kept.entries c.args.value in
+    let mirrors = c.turn.invariant in
+    let seen = c.committed-seen.ensures in
+    let low = c.committed-seen.type_inv in
+    let commits = commits_inside x _ _ c.turn.view_is c.requires.value in
+    let growth_is = ap (λ z. z - c.turn.inside.committed) seen in
+    let fits = count_fits _ _ _ _ _ _ _ mirrors commits _ growth_is c.in-Some.count c.in-Some.is in
+    omega arith
+
+pub fetch_add-requires : goal.fetch_add-requires
+fetch_add-requires g c =
+    let summary = summary_of g.T.Kept.setup g.T.Kept.committed g.T.Kept.entries in
+    let mirrors = c.turn.invariant in
+    let seen = c.committed-seen.ensures in
+    let low = c.committed-seen.type_inv in
+    let commits = commits_inside (summary c.args.value) _ _ c.turn.view_is c.requires.value in
+    let growth_is = ap (λ z. z - c.turn.inside.committed) seen in
+    let place = place_is _ _ _ _ _ _ _ mirrors commits _ growth_is in
+    let inside = place_inside _ _ _ _ _ _ _ mirrors commits _ growth_is in
+    let words = c.self.invariant.0 in
+    (search rules, omega arith, publish_allowed _ _ _ _ _ _ _ mirrors commits _ growth_is summary _ _ _ _ _ (ap (λ z. z.0) c.exchange-slot.ensures.3) refl (let e = seen in omega arith))
+
+pub fetch_add-requires-2 : goal.fetch_add-requires-2
+fetch_add-requires-2 g c =
+    let summary = summary_of g.T.Kept.setup g.T.Kept.committed g.T.Kept.entries in
+    let mirrors = c.turn.invariant in
+    let seen = c.committed-seen.ensures in
+    let commits = commits_inside (summary c.args.value) _ _ c.turn.view_is c.requires.value in
+    let growth_is = ap (λ z. z - c.turn.inside.committed) seen in
+    (search rules, search rules, pass_allowed _ _ _ _ _ _ _ mirrors commits _ growth_is summary _ c.args.value _ _ _ _ refl c.self.invariant.1 c.exchange-slot.ensures.3 c.fetch_add.ensures.2)
+
+pub invariant_of-result : goal.invariant_of-result
+invariant_of-result g c =
+    let summary = summary_of g.T.Kept.setup g.T.Kept.committed g.T.Kept.entries in
+    let mirrors = c.turn.invariant in
+    let seen = c.committed-seen.ensures in
+    let commits = commits_inside (summary c.args.value) _ _ c.turn.view_is c.requires.value in
+    let growth_is = ap (λ z. z - c.turn.inside.committed) seen in
+    let now = given_views _ _ _ _ _ _ _ mirrors commits _ growth_is c.args.value _ _ _ _ c.exchange-slot.ensures.3 c.fetch_add.ensures.2 c.fetch_add-2.ensures.2 (sym c.into_badge.ensures.2) in
+    mirrors_given _ _ _ _ _ _ _ mirrors commits _ growth_is _ _ _ now seen c.in-Some.is
+
+pub returns : goal.returns
+returns g c =
+    let summary = summary_of g.T.Kept.setup g.T.Kept.committed g.T.Kept.entries in
+    let mirrors = c.turn.invariant in
+    let seen = c.committed-seen.ensures in
+    let commits = commits_inside (summary c.args.value) _ _ c.turn.view_is c.requires.value in
+    let growth_is = ap (λ z. z - c.turn.inside.committed) seen in
+    let now = given_views _ _ _ _ _ _ _ mirrors commits _ growth_is c.args.value _ _ _ _ c.exchange-slot.ensures.3 c.fetch_add.ensures.2 c.fetch_add-2.ensures.2 (sym c.into_badge.ensures.2) in
+    let table : c.turn.inside.table_seat.table_id ≡ c.into_badge.result.table_id = search rules in
+    let back = given_back_as _ _ _ _ _ c.turn.view_is (λ k. seat_of (table k) (view_of (sym now k))) (given_back _ _ _ _ _ _ _ mirrors commits _ growth_is c.turn.inside.table_seat.table_id) in record {
+      lock = back.lock;
+      caller = back.caller;
+      turns = back.turns;
+      seen = back.seen;
+      last = back.last;
+      own = back.own;
+      others = back.others;
+    }

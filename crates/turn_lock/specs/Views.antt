@@ -1,0 +1,143 @@
+-- The view of a seat, and how each kind of step changes it. A place is a caller's number less one.
+use Rattle.std.specs.Prelude.{◌≡◌, ℕ, suc, ◌+◌, ◌-◌, ◌^◌, List, [], ◌∷◌, ◌++◌, sum, unwrap_or, max, Option, Some, None, slice_index, slice_index_or, slice_set}
+use Rattle.std.specs.Option.{option_or}
+use Rattle.tierra_model.specs.Setups.{setup_for}
+use Rattle.turn_lock.specs.declared.view.Summary.{Summary}
+use Rattle.turn_lock.specs.declared.view.View.{View}
+use Rattle.turn_lock.specs.declared.view.Stage.{Stage}
+use Rattle.turn_lock.specs.declared.view.Stage.TheVariants.{Spent, Idle, Waiting, Called, Holding}
+use Rattle.turn_lock.specs.Seats.{only}
+
+-- how many tickets a caller may draw
+abbrev pub most_tickets : ℕ
+most_tickets = 2 ^ 40
+
+-- the count of the caller at this place, if the view speaks for it
+abbrev pub own_at : View → ℕ → Option ℕ
+own_at v i = slice_index_or v.own i None
+
+abbrev pub left_of : View → ℕ
+left_of v = v.left
+
+-- how many tickets a seat holds
+abbrev pub ticket_count : Stage → ℕ
+ticket_count Spent = 0
+ticket_count Idle = 0
+ticket_count (Waiting t) = 1
+ticket_count (Called t read) = 1
+ticket_count (Holding t read) = 1
+
+-- the ticket that it holds, if it holds one
+abbrev pub ticket_of : Stage → ℕ
+ticket_of Spent = 0
+ticket_of Idle = 0
+ticket_of (Waiting t) = t
+ticket_of (Called t read) = t
+ticket_of (Holding t read) = t
+
+-- the counts that it has read
+abbrev pub counts_read : Stage → List ℕ
+counts_read Spent = []
+counts_read Idle = []
+counts_read (Waiting t) = []
+counts_read (Called t read) = read
+counts_read (Holding t read) = read
+
+abbrev pub HasTicket : Stage → ℕ → Type 0
+HasTicket Spent n = ⊥
+HasTicket Idle n = ⊥
+HasTicket (Waiting t) n = t ≡ n
+HasTicket (Called t read) n = t ≡ n
+HasTicket (Holding t read) n = t ≡ n
+
+-- it waits for this ticket
+abbrev pub WaitsFor : Stage → ℕ → Type 0
+WaitsFor Spent n = ⊥
+WaitsFor Idle n = ⊥
+WaitsFor (Waiting t) n = t ≡ n
+WaitsFor (Called t read) n = ⊥
+WaitsFor (Holding t read) n = ⊥
+
+-- no seat took it in
+abbrev pub IsActive : Stage → Type 0
+IsActive Spent = ⊥
+IsActive Idle = Unit {0}
+IsActive (Waiting t) = Unit {0}
+IsActive (Called t read) = Unit {0}
+IsActive (Holding t read) = Unit {0}
+
+abbrev pub IsHolding : Stage → Type 0
+IsHolding Spent = ⊥
+IsHolding Idle = ⊥
+IsHolding (Waiting t) = ⊥
+IsHolding (Called t read) = ⊥
+IsHolding (Holding t read) = Unit {0}
+
+abbrev pub at_stage : View → Stage → View
+at_stage v stage = record v { stage = stage }
+
+-- the view of the seat that a new lock comes with
+abbrev pub first_view : Summary → View
+first_view opening = record { opening = opening; stage = Idle; place = 0; seen = opening.committed; turns = 0; left = most_tickets; last_caller = Some 1; own = only 0 }
+
+-- a ticket is drawn
+abbrev pub after_draw : View → ℕ → View
+after_draw v ticket = record v { stage = Waiting ticket; left = v.left - 1 }
+
+-- the ticket is served
+abbrev pub after_call : View → View
+after_call v = at_stage v (Called (ticket_of v.stage) [])
+
+-- one more count is read
+abbrev pub after_count : View → ℕ → View
+after_count v count = at_stage v (Called (ticket_of v.stage) (counts_read v.stage ++ count ∷ []))
+
+-- the slot is taken
+abbrev pub after_take : View → View
+after_take v = at_stage v (Holding (ticket_of v.stage) (counts_read v.stage))
+
+-- the own caller's count, as read, has grown
+abbrev pub grown_counts : View → ℕ → List ℕ
+grown_counts v growth = slice_set (counts_read v.stage) v.place (slice_index (counts_read v.stage) v.place + growth)
+
+-- the growth is published
+abbrev pub after_publish : View → ℕ → View
+after_publish v growth = record v {
+  stage = Holding (ticket_of v.stage) (grown_counts v growth);
+  own = slice_set v.own v.place (Some (slice_index (counts_read v.stage) v.place + growth));
+  seen = v.opening.committed + sum (grown_counts v growth);
+}
+
+-- the slot is given back, and the next ticket served
+abbrev pub after_pass : View → View
+after_pass v = record v { stage = Idle; turns = v.turns + 1 }
+
+-- the number given out last, which is the place of the caller that comes next
+abbrev pub last_of : View → ℕ
+last_of v = unwrap_or v.last_caller 0
+
+-- a caller number more is given out
+abbrev pub after_split : View → View
+after_split v = record v { last_caller = Some (suc (last_of v)) }
+
+-- the view of the seat for that caller
+abbrev pub new_view : View → View
+new_view v = record { opening = v.opening; stage = Idle; place = last_of v; seen = v.seen; turns = 0; left = most_tickets; last_caller = None; own = only (last_of v) }
+
+-- at each place what stands in the first list, or else what stands in the second
+abbrev pub merged : List (Option ℕ) → List (Option ℕ) → List (Option ℕ)
+merged [] ys = ys
+merged (x ∷ xs) [] = x ∷ xs
+merged (x ∷ xs) (y ∷ ys) = option_or x y ∷ merged xs ys
+
+-- a seat is taken in
+abbrev pub after_join : View → View → View
+after_join v w = record v { seen = max v.seen w.seen; turns = v.turns + w.turns; left = v.left + w.left; last_caller = option_or v.last_caller w.last_caller; own = merged v.own w.own }
+
+-- the summary of no value
+pub no_summary : Summary
+no_summary = record { setup = (setup_for [], 0); committed = 0; entries = [] }
+
+-- what is left of a seat that was taken in
+abbrev pub spent : View
+spent = record { opening = no_summary; stage = Spent; place = 0; seen = 0; turns = 0; left = 0; last_caller = None; own = [] }

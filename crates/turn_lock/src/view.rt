@@ -1,0 +1,63 @@
+//! What the rule of the lock speaks of: the table behind it, and what each seat knows. Contracts alone see this, and no value of
+//! these types is made.
+//!
+//! Word 0 of the table is the next ticket, word 1 the ticket that is served, and word c + 1 counts the entries by caller c. The
+//! one slot has the value, or `None` while a turn has it.
+
+use crate::kept::Kept;
+use atomic_table::TableRule;
+use std::collections::LinkedList;
+use std::snapshot::Snapshot;
+use tierra_model::Setup;
+
+/// What the lock reads of a value.
+pub struct Summary {
+    pub setup: (Setup, u64),
+    pub committed: u64,
+    pub entries: [u64; 64],
+}
+
+/// What a seat is at.
+pub enum Stage {
+    /// Another seat took it in.
+    Spent,
+    /// It has no ticket.
+    Idle,
+    /// It drew this ticket.
+    Waiting(u64),
+    /// Its ticket is served, and it has read these counts, in the order of the callers.
+    Called(u64, LinkedList<u64>),
+    /// It has all counts, and the slot is out with it.
+    Holding(u64, LinkedList<u64>),
+}
+
+/// What a seat knows.
+pub struct View {
+    /// Of the value that the lock was made of.
+    pub opening: Summary,
+    pub stage: Stage,
+    /// Its own caller's number less one, which is the caller's place in `own`.
+    pub place: u64,
+    pub seen: u64,
+    pub turns: u64,
+    /// How many tickets its callers may still draw.
+    pub left: u64,
+    /// The last caller number given out, where it speaks for caller 1.
+    pub last_caller: Option<u64>,
+    /// In the order of the callers, the count of each that it speaks for.
+    pub own: [Option<u64>; 64],
+}
+
+/// The rule of the table.
+pub struct LockRule;
+
+impl<T: Kept> TableRule<Option<T>, View, Snapshot<T>> for LockRule {
+    ghost use Rattle.turn_lock.specs.Summaries.{summary_of};
+    ghost use Rattle.turn_lock.specs.Views.{first_view};
+    ghost use Rattle.turn_lock.specs.Rule.{IsSound};
+
+    ghost holds = { λ key. IsSound (summary_of T.setup T.committed T.entries)
+        (summary_of T.setup T.committed T.entries key.value) };
+
+    ghost first = { λ key. first_view (summary_of T.setup T.committed T.entries key.value) };
+}
