@@ -3,11 +3,10 @@ use Rattle.std.proofs.Common.{◌≡◌, ℕ, zero, suc, ◌+◌, ◌-◌, ◌*�
 use Rattle.std.proofs.Math.Nat.{div-lt_iff_lt-mul, mod-eq_of_lt, mul-add-mod_self_right, mul-le-mul_right, pow-suc, pow-succ', mod-lt, one-le-pow, pow-le-pow_right, pow-zero}
 use Rattle.std.proofs.lemmas.Bool.{and_parts, cases_lt, cases_order}
 use Rattle.std.proofs.lemmas.Bool.Decides.{nat_tests}
-use Rattle.std.proofs.lemmas.Grind.{pow_more}
 use Rattle.std.proofs.lemmas.Nat.{div-add-mod', div-mul-add}
 use Rattle.std.specs.Char.{is_ascii_lowercase}
 use Rattle.std.specs.List.{list_all}
-use Rattle.std.specs.Prelude.{nat_le, nat_lt, ◌&&◌, ◌⊎◌}
+use Rattle.std.specs.Prelude.{nat_le, nat_lt, ◌⊎◌}
 use Rattle.genotyper.specs.Names.{are_letters, is_word, letters_of, rank_of, shorter_words, value_in, word, word_from}
 use Rattle.genotyper.proofs.Words.{shorter_words-closed, word_from-here, word_from-later}
 

@@ -1,5 +1,5 @@
 -- Names are read back from their texts, and from no others.
-use Rattle.std.proofs.Common.{◌≡◌, ℕ, ◌^◌, ◌<◌, ◌≤◌, Bool, true, false, cond, List, [], ◌∷◌, ◌++◌, refl, sym, ◌∙◌, ap, arith, drop, length, subst}
+use Rattle.std.proofs.Common.{◌≡◌, ℕ, ◌^◌, ◌<◌, ◌≤◌, Bool, true, false, List, [], ◌∷◌, ◌++◌, refl, sym, ◌∙◌, ap, arith, drop, length, subst}
 use Rattle.std.proofs.Math.Seq.{drop-append_seam}
 use Rattle.std.proofs.lemmas.Bool.{and_parts}
 use Rattle.std.proofs.lemmas.Bool.Decides.{nat_tests}
@@ -7,7 +7,7 @@ use Rattle.std.proofs.lemmas.List.{take-append-drop}
 use Rattle.std.proofs.lemmas.List.Sums.{take_while-cons}
 use Rattle.std.specs.Char.{is_ascii_digit, is_ascii_lowercase}
 use Rattle.std.specs.List.{list_all}
-use Rattle.std.specs.Prelude.{Err, IfOk, Ok, Result, if◌then◌else◌, nat_le, nat_lt, not, ◌&&◌}
+use Rattle.std.specs.Prelude.{Err, IfOk, Ok, Result, if◌then◌else◌, not}
 use Rattle.std.specs.Str.{all_ascii_digits}
 use Rattle.tierra_model.specs.declared.genebank.Name.{Name}
 use Rattle.tierra_model.specs.Groups.{IsName}
@@ -45,6 +45,7 @@ lowercase ls h =
 
 -- each name is read from its text
 name_in-name_text : (name : Name) → IsName name → name_in (name_text name) ≡ Ok name
+unfolding name_in name_text
 name_in-name_text name h =
     let small : name.size < 2 ^ 64 = omega (arith, h) in
     let letters = are_letters-letters_of name.rank h.2 in
@@ -56,6 +57,7 @@ name_in-name_text name h =
 
 -- what is read is a name whose text it is
 name_in-is_text : (text : List ℕ) → IfOk (name_in text) (λ name. IsName name × (text ≡ name_text name))
+unfolding name_in name_text
 name_in-is_text text = go (is_size (digits_of text)) (are_letters (rest_of text)) refl refl
   where
     go : (b d : Bool) → is_size (digits_of text) ≡ b → are_letters (rest_of text) ≡ d

@@ -1,5 +1,5 @@
 -- Sizes and their digits: each way back.
-use Rattle.std.proofs.Common.{Bool, eq-eqb, ◌≡◌, ◌≢◌, ℕ, zero, suc, ◌+◌, ◌-◌, ◌*◌, ◌^◌, ◌<◌, ◌≤◌, true, false, List, [], ◌∷◌, ◌++◌, refl, sym, ◌∙◌, ap, arith, rules, get_or, inl, inr, length, length-append, lit<, subst}
+use Rattle.std.proofs.Common.{Bool, eq-eqb, ◌≡◌, ◌≢◌, ℕ, zero, suc, ◌+◌, ◌-◌, ◌^◌, ◌<◌, ◌≤◌, true, false, List, [], ◌∷◌, ◌++◌, refl, sym, ◌∙◌, ap, arith, rules, inl, inr, length, length-append, lit<}
 use Rattle.std.proofs.lemmas.Bool.{and_parts, cases_lt}
 use Rattle.std.proofs.lemmas.Bool.Decides.{nat_tests}
 use Rattle.std.proofs.lemmas.Fmt.{decimal-digits_value, digits_decimal, digits_value-decimal, first_decimal}
@@ -7,7 +7,7 @@ use Rattle.std.proofs.lemmas.List.{length-replicate}
 use Rattle.std.proofs.lemmas.Str.Parse.{IsNumeralModel, numerals_by_weight, tells_all_ascii_digits}
 use Rattle.std.specs.Char.{is_ascii_digit}
 use Rattle.std.specs.Fmt.{decimal}
-use Rattle.std.specs.Prelude.{nat_le, not, replicate, slice_index, ◌&&◌, ◌==◌, ◌||◌, ◌⊎◌}
+use Rattle.std.specs.Prelude.{nat_le, not, replicate, slice_index, ◌==◌, ◌||◌, ◌⊎◌}
 use Rattle.std.specs.Str.{all_ascii_digits}
 use Rattle.genotyper.specs.Names.{is_size, size_text, value_in}
 

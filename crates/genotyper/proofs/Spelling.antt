@@ -1,13 +1,12 @@
 -- What the parts of a name's text are.
-use Rattle.std.proofs.Common.{◌≡◌, ℕ, zero, suc, ◌+◌, ◌-◌, ◌*◌, ◌^◌, ◌<◌, ◌≤◌, Bool, true, false, cond, List, [], ◌∷◌, ◌++◌, refl, sym, ◌∙◌, ap, arith, get_or, length, inl, inr, lit<, take}
+use Rattle.std.proofs.Common.{◌≡◌, ℕ, ◌+◌, ◌-◌, ◌*◌, ◌^◌, ◌<◌, ◌≤◌, Bool, true, false, cond, List, [], ◌∷◌, refl, ap, arith, length, inl, inr, lit<, take}
 use Rattle.std.proofs.Math.Nat.{pow-le-pow_right, mul-le-mul_right}
 use Rattle.std.proofs.lemmas.Bool.{and_parts, cases_lt}
 use Rattle.std.proofs.lemmas.Bool.Decides.{nat_tests}
 use Rattle.std.proofs.lemmas.List.Elements.{All-nil, All-cons}
 use Rattle.std.proofs.lemmas.List.Sums.{take_while-cons}
 use Rattle.std.specs.Char.{is_ascii_digit}
-use Rattle.std.specs.List.{take_while}
-use Rattle.std.specs.Prelude.{All, nat_le, slice_index, ◌&&◌, ◌⊎◌}
+use Rattle.std.specs.Prelude.{All, nat_le, slice_index, ◌⊎◌}
 use Rattle.std.specs.Str.{all_ascii_digits}
 use Rattle.genotyper.specs.Names.{digits_of, is_size, is_word, value_in}
 

@@ -5,7 +5,7 @@ use Rattle.std.proofs.lemmas.Bool.{cases_lt}
 use Rattle.std.proofs.lemmas.Bool.Decides.{nat_tests}
 use Rattle.std.proofs.lemmas.Grind.{pow_more}
 use Rattle.std.specs.Prelude.{nat_lt, ◌⊎◌}
-use Rattle.genotyper.specs.Names.{letters_of, shorter_words, word, word_from}
+use Rattle.genotyper.specs.Names.{shorter_words, word, word_from}
 
 -- 26 times as many words of one letter more
 pub shorter_words-closed : (n : ℕ) → 25 * shorter_words n + 17576 ≡ 26 ^ (n + 3)
@@ -39,7 +39,7 @@ word_from-later lengths n rank h =
     let later : nat_lt rank (26 ^ n) ≡ false = grind (arith, nat_tests) in
     rw (later, word_from)
 
--- a word of two to the 64 or fewer has 13 letters at most
+-- no more than 13 letters have so few words
 pub few_letters : (n : ℕ) → 26 ^ n < 2 ^ 64 → n ≤ 13
 few_letters n h = go (cases_lt 13 n)
   where

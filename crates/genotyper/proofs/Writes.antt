@@ -1,13 +1,11 @@
 -- The genotypes after what is kept of one is written anew.
-use Rattle.std.proofs.Common.{◌≡◌, ℕ, zero, suc, ◌+◌, List, [], ◌∷◌, refl, sym, ◌∙◌, ap, slice_get, length, map}
+use Rattle.std.proofs.Common.{◌≡◌, ℕ, zero, suc, ◌+◌, List, [], ◌∷◌, refl, sym, ◌∙◌, ap, slice_get, length}
 use Rattle.std.specs.Prelude.{Some, if◌then◌else◌, ◌==◌}
-use Rattle.std.specs.HashMap.{values}
 use Rattle.std.specs.Map.{values_of}
 use Rattle.indexmap.specs.Layout.{length-set_value_at, set_value_at}
 use Rattle.tierra_model.specs.declared.creatures.Effort.{Effort}
 use Rattle.tierra_model.specs.Genebank.{number_before}
 use Rattle.tierra_model.specs.Individuals.{with_effort, with_effort_of, with_one_more}
-use Rattle.tierra_model.specs.World.{Genotype}
 use Rattle.genotyper.specs.declared.genotypes.Details.{Details}
 use Rattle.genotyper.specs.Genotypes.{IsRanked, genotype_of, genotypes_of}
 

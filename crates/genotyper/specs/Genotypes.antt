@@ -1,5 +1,5 @@
 -- Genotypes in the order of their first birth.
-use Rattle.std.specs.Prelude.{List, Some, length, map, slice_get, ℕ, ◌≡◌, ◌≤◌}
+use Rattle.std.specs.Prelude.{List, None, Option, Some, length, map, slice_get, ℕ, ◌≡◌, ◌≤◌}
 use Rattle.tierra_model.specs.Genebank.{number_before}
 use Rattle.tierra_model.specs.World.{Genotype}
 use Rattle.genotyper.specs.declared.genotypes.Details.{Details}
@@ -8,6 +8,11 @@ use Rattle.genotyper.specs.declared.genotypes.Details.{Details}
 pub record GenotypeFields : Type 0 where
   pub genotypes : List Genotype
   pub spare : ℕ
+
+-- a genotype of so many individuals, with no effort noted
+abbrev pub new_genotype : List ℕ → Option ℕ → ℕ → ℕ → Genotype
+new_genotype code parent q total =
+    record { code = code; parent = parent; first_quantum = q; total = total; first_effort = None; second_effort = None }
 
 -- a code with what is kept of it
 abbrev pub genotype_of : List ℕ × Details → Genotype
@@ -24,7 +29,7 @@ genotype_of (code, d) =
 abbrev pub genotypes_of : List (List ℕ × Details) → List Genotype
 genotypes_of entries = map genotype_of entries
 
--- The ranks that are kept are those of the list, and the counts are those of each size.
+-- What the type keeps: no code is too long, each rank is that of the list, and each count is that of a size.
 pub record IsRanked (entries : List (List ℕ × Details)) (count : ℕ → ℕ) : Type 0 where
   pub short : (k : ℕ) (code : List ℕ) (d : Details) → slice_get entries k ≡ Some (code, d) → length code ≤ 20000
   pub ranks : (k : ℕ) (code : List ℕ) (d : Details) → slice_get entries k ≡ Some (code, d)

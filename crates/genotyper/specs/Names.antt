@@ -1,4 +1,4 @@
--- Names of genotypes as texts.
+-- Names of genotypes as texts. In ASCII 48 is the digit 0, and 97 the letter a.
 use Rattle.std.specs.Char.{is_ascii_digit, is_ascii_lowercase}
 use Rattle.std.specs.List.{list_all, take_while}
 use Rattle.std.specs.Fmt.{decimal}
@@ -13,12 +13,13 @@ use Rattle.genotyper.specs.declared.names.NameFault.TheVariants.{BadLetters, Bad
 abbrev pub size_text : ℕ → List ℕ
 size_text size = replicate (4 - length (decimal size)) 48 ++ decimal size
 
--- a word of n letters, by the rank among those words: n digits in base 26, where 97, which is a, is the digit 0
+-- a word of n letters by its rank among those words: the rank's n digits in base 26, from a for 0
 abbrev pub word : ℕ → ℕ → List ℕ
 word zero rank = []
 word (suc n) rank = (97 + rank / 26 ^ n) ∷ word n (rank % 26 ^ n)
 
--- a rank among the words of n letters or more, the shorter ones first; so many lengths are tried
+-- a word of n letters or more by its rank among those words, of which the shorter ones come first (the first number
+-- bounds how many lengths are tried)
 abbrev pub word_from : ℕ → ℕ → ℕ → List ℕ
 word_from zero n rank = word n rank
 word_from (suc lengths) n rank =
@@ -27,11 +28,11 @@ word_from (suc lengths) n rank =
       | false ↦ word_from lengths (n + 1) (rank - 26 ^ n)
     ]
 
--- the words have three letters or more
+-- a rank's word, of three letters or more
 abbrev pub letters_of : ℕ → List ℕ
 letters_of rank = word_from rank 3 rank
 
-abbrev pub name_text : Name → List ℕ
+unfoldable pub name_text : Name → List ℕ
 name_text name = size_text name.size ++ letters_of name.rank
 
 -- ---- the name that a text says
@@ -48,9 +49,9 @@ shorter_words (suc n) = shorter_words n + 26 ^ (n + 3)
 
 -- the rank of a word of three letters or more
 abbrev pub rank_of : List ℕ → ℕ
-rank_of word = shorter_words (length word - 3) + value_in 26 97 word
+rank_of letters = shorter_words (length letters - 3) + value_in 26 97 letters
 
--- The text is split before its first byte that is no digit.
+-- a text is split before its first byte that is no digit
 abbrev pub digits_of : List ℕ → List ℕ
 digits_of text = take_while is_ascii_digit text
 
@@ -67,10 +68,12 @@ is_size digits =
 abbrev pub is_word : List ℕ → Bool
 is_word bytes = nat_le 3 (length bytes) && nat_le (length bytes) 13 && list_all is_ascii_lowercase bytes
 
+-- of a rank below 2 ^ 60
 abbrev pub are_letters : List ℕ → Bool
 are_letters bytes = is_word bytes && nat_lt (rank_of bytes) (2 ^ 60)
 
-abbrev pub name_in : List ℕ → Result Name NameFault
+-- the size is looked at first
+unfoldable pub name_in : List ℕ → Result Name NameFault
 name_in text =
     let digits = digits_of text in
     let rest = rest_of text in

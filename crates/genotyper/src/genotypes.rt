@@ -7,7 +7,7 @@ ghost use Rattle.tierra_model.specs.World.{genotype_at};
 ghost use Rattle.tierra_model.specs.Individuals.{genotype_number, with_effort, with_effort_of, with_individual, with_one_more};
 ghost use Rattle.tierra_model.specs.Genebank.{name_of, number_before};
 ghost use Rattle.tierra_model.specs.Ranges.{IsCode};
-ghost use Rattle.genotyper.specs.Genotypes.{genotype_of, genotypes_of};
+ghost use Rattle.genotyper.specs.Genotypes.{genotype_of, genotypes_of, new_genotype};
 
 use indexmap::IndexMap;
 use std::alloc::Global;
@@ -73,7 +73,10 @@ impl Model for Genotypes {
 
     ghost Value = { GenotypeFields };
 
-    ghost view = { λ g. record { genotypes = genotypes_of g.entries.entries; spare = min (map_spare g.entries) (map_spare g.sizes) } };
+    ghost view = { λ g. record {
+      genotypes = genotypes_of g.entries.entries;
+      spare = min (map_spare g.entries) (map_spare g.sizes);
+    } };
 
     ghost invariant = { λ g. IsRanked g.entries.entries (λ size. unwrap_or (get nat_eq g.sizes size) 0) };
 }
@@ -240,7 +243,7 @@ impl Genotypes {
         requires room { 0 < self.old.spare }
         requires code { IsCode code }
         requires new { genotype_number code self.old.genotypes ≡ None }
-        ensures genotypes { self.new.genotypes ≡ self.old.genotypes ++ (record { code = code; parent = parent; first_quantum = q; total = total; first_effort = None; second_effort = None }) ∷ [] }
+        ensures genotypes { self.new.genotypes ≡ self.old.genotypes ++ new_genotype code parent q total ∷ [] }
         ensures number { result ≡ length self.old.genotypes }
         ensures room { self.old.spare ≤ self.new.spare + 1 }
     {

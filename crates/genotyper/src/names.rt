@@ -22,7 +22,7 @@ pub enum NameFault {
 }
 
 /// The text of a name, such as `0080aaa`.
-#[tactic(auto, using(crate::proofs::Digits::size_is_written))]
+#[tactic(auto, using(crate::proofs::Digits::size_is_written), unfolding(crate::specs::Names::name_text))]
 pub fn name_text(alloc: Global, name: &Name) -> Result<Text, OutOfMemory>
     ensures { IfOk result (λ text. text ≡ name_text name.now) }
 {
@@ -71,7 +71,7 @@ pub fn parse_name(text: &str) -> Result<Name, NameFault>
     read_name(text.as_bytes())
 }
 
-#[tactic(auto, using(crate::proofs::Spelling::digits_come_first))]
+#[tactic(auto, using(crate::proofs::Spelling::digits_come_first), unfolding(crate::specs::Names::name_in))]
 fn read_name(text: &[u8]) -> Result<Name, NameFault>
     ensures { result ≡ name_in text.now }
 {

@@ -1,4 +1,4 @@
-use Rattle.std.proofs.Common.{rules, ◌≡◌, ◌+◌, ◌-◌, ◌*◌, ◌<◌, ◌≤◌, ◌^◌, ◌++◌, arith, ℕ, lit<, sym, ◌∙◌, ap}
+use Rattle.std.proofs.Common.{◌≤◌, arith, lit<}
 use Rattle.std.proofs.Math.Nat.{one-le-pow}
 use Rattle.std.proofs.lemmas.Grind.{pow_more}
 use Rattle.genotyper.proofs.Words.{few_letters, word_from-here, word_from-step}

@@ -1,4 +1,4 @@
-use Rattle.std.proofs.Common.{rules, ◌≡◌, ◌-◌, ◌<◌, ◌≤◌, ◌^◌, ◌%◌, ◌++◌, arith, lit<, ℕ}
+use Rattle.std.proofs.Common.{◌-◌, ◌≤◌, ◌^◌, arith, lit<}
 use Rattle.std.proofs.Math.Nat.{one-le-pow}
 use Rattle.genotyper.proofs.Digits.{power_fits}
 use Rattle.genotyper.proofs.Words.{word-push}

@@ -1,5 +1,4 @@
-use Rattle.std.proofs.Common.{rules, ◌≡◌, ◌+◌, ◌*◌, ◌<◌, ◌≤◌, ◌^◌, arith, ℕ, ap, ◌∙◌, sym}
-use Rattle.genotyper.specs.Names.{shorter_words}
+use Rattle.std.proofs.Common.{◌+◌, ◌≤◌, arith}
 use Rattle.genotyper.proofs.Words.{shorter_words-closed, shorter_words-next, words-next, words_fit}
 use Rattle.genotyper.proofs.names.shorter_words.Goals as goal
 

@@ -1,4 +1,4 @@
-use Rattle.std.proofs.Common.{rules, ◌≡◌, ◌^◌, ◌<◌, ◌≤◌, ℕ, nat_eq, arith, length, ap, ◌∙◌}
+use Rattle.std.proofs.Common.{◌≡◌, ◌^◌, nat_eq, arith, length}
 use Rattle.std.specs.Prelude.{unwrap_or}
 use Rattle.std.specs.HashMap.{get}
 use Rattle.genotyper.proofs.Births.{count_lt, ranked-first}

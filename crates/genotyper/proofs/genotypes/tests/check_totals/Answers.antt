@@ -1,4 +1,4 @@
-use Rattle.std.proofs.Common.{ℕ, ◌<◌, ◌^◌, arith}
+use Rattle.std.proofs.Common.{◌<◌, ◌^◌, arith}
 use Rattle.std.proofs.lemmas.List.Elements.{All-from_get_or}
 use Rattle.tierra_model.specs.World.{Genotype, no_genotype}
 use Rattle.genotyper.proofs.genotypes.tests.check_totals.Goals as goal
