@@ -1,7 +1,8 @@
+pub mod Computing
+pub mod Examples
 pub mod SearchRows
 pub mod MalRows
 pub mod AncestorRows
-pub mod LargeRows
 pub mod Living
 pub mod Commutes
 pub mod Owners
