@@ -210,7 +210,7 @@ front-none c =
     ap (λ (b : Bool). if b then (if same_creature c c then None else Some stale.Body) else Some (stale.Front c.id c.id)) ((Decides-eqb c.id c.id).1 refl)
     ∙ ap (λ (b : Bool). if b then None else Some stale.Body) (same_creature-self c)
 
-cells-agree : (cs : List (ℕ × ℕ)) (w : World) → of_cells cs w.soup ≡ None → CellsAgree cs w
+pub cells-agree : (cs : List (ℕ × ℕ)) (w : World) → of_cells cs w.soup ≡ None → CellsAgree cs w
 cells-agree [] w h = tt
 cells-agree (c ∷ cs) w h = go (slice_index w.soup c.0 == c.1) refl h (cells-agree cs w)
   where

@@ -25,6 +25,8 @@ pub mod During
 pub mod Runs
 pub mod Sound
 pub mod LawOfFindings
+pub mod FalseFindings
+pub mod FalseNeighbours
 pub mod SumOfSizes
 pub mod Starts
 pub mod Differs
