@@ -62,7 +62,7 @@ listed-weaker t u gs h l = record { once = l.once; written = l.written; parents 
 
 pub saves-weaker : (q z y a : ℕ) (gs : List Genotype) (saved : List _) → z ≤ y → Saves q z a gs saved → Saves q y a gs saved
 saves-weaker q z y a gs saved h s =
-    record { once = s.once; known = s.known; rising = s.rising; past = s.past; kept = s.kept; sizes = s.sizes; size = omega (arith, s.size) }
+    record { once = s.once; known = s.known; rising = s.rising; past = s.past; efforts = s.efforts; sizes = s.sizes; size = omega (arith, s.size) }
 
 front_listed : (s : Settings) (e m b z q : ℕ) (w : World) → During s e m b z q w → (front w).genotype < length w.genotypes
 front_listed s e m b z q w d = each-one (IsListed (length w.genotypes)) w.living (first_of w.slicer) d.core.led.here d.genotype

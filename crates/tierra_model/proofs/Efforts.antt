@@ -78,7 +78,7 @@ with_effort_of-saves q z a k bred e gs saved s =
       known = subst (λ n. All (λ x. x.genotype < n) saved) (sym (length-with_effort_of k bred e gs)) s.known;
       rising = s.rising;
       past = s.past;
-      kept = s.kept;
+      efforts = s.efforts;
       sizes = λ p h. rw (size p) (s.sizes p h);
       size = rw (size q) s.size;
     }

@@ -4,7 +4,7 @@ use Rattle.tierra_model.specs.declared.parameters.Settings.{Settings}
 use Rattle.tierra_model.specs.declared.events.Event.{Event}
 use Rattle.tierra_model.specs.declared.events.Event.TheVariants as event
 use Rattle.tierra_model.specs.World.{World}
-use Rattle.tierra_model.specs.Sound.{IsSound, limit}
+use Rattle.tierra_model.specs.Sound.{IsSound, count_limit}
 use Rattle.tierra_model.specs.Events.{apply_event}
 use Rattle.tierra_model.specs.Replay.{CanAllHappen, after_events}
 use Rattle.tierra_model.proofs.During.{During, Adds, during}
@@ -39,6 +39,6 @@ can-left w (v ∷ vs) ys c = (c.0, can-left (apply_event w v) vs ys c.1)
 
 -- between the events of a finding, whose world was sound
 pub between_events : (w : World) (xs ys : List Event) → IsSound w → CanAllHappen w (xs ++ ys)
-    → During w.settings (limit w.quanta + length xs) (limit w.quanta) (limit w.quanta + length xs) (0 + 20100 * length xs) (w.quanta + 1) (after_events w xs)
+    → During w.settings (count_limit w.quanta + length xs) (count_limit w.quanta) (count_limit w.quanta + length xs) (0 + 20100 * length xs) (w.quanta + 1) (after_events w xs)
 between_events w xs ys s c =
-    happened_during w.settings (limit w.quanta) (limit w.quanta) (limit w.quanta) 0 (w.quanta + 1) xs w (begins_during w s) (can-left w xs ys c)
+    happened_during w.settings (count_limit w.quanta) (count_limit w.quanta) (count_limit w.quanta) 0 (w.quanta + 1) xs w (begins_during w s) (can-left w xs ys c)

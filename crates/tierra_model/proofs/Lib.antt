@@ -44,3 +44,5 @@ pub mod Own
 pub mod Ranges
 pub mod StandIns
 pub mod LeastFit
+pub mod Ahead
+pub mod Disturbance

@@ -21,7 +21,7 @@ use Rattle.tierra_model.specs.Sound.{owners}
 use Rattle.tierra_model.specs.Individuals.{with_individual, genotypes_at_birth}
 use Rattle.tierra_model.specs.Events.{apply_event, record_after, with_birth, with_death, errors_in, has_id}
 use Rattle.tierra_model.specs.FreeList.{free_list, is_in_some}
-use Rattle.tierra_model.specs.Yard.{yard, with_standing, standing, stand_in, no_standing, is_his}
+use Rattle.tierra_model.specs.Yard.{yard, with_standing, standing, stand_in, no_standing, is_standing_of}
 use Rattle.tierra_model.specs.Scene.{Scene, apply_in_scene, with_newborn}
 use Rattle.tierra_model.specs.Reads.{is_noted, writes}
 use Rattle.tierra_model.specs.SceneRun.{SceneRun, scene_machine, is_known, births_of}
@@ -31,7 +31,7 @@ use Rattle.tierra_model.proofs.Living.{is_here, find-append, find-without, find-
 use Rattle.tierra_model.proofs.Owners.{is_owned-owners, is_here-times}
 use Rattle.tierra_model.proofs.Commutes.{Led, front-id, led-put, mark, record_after-id, error_move-cong, good_move-cong}
 use Rattle.tierra_model.proofs.Free.{AlikeBelow, runs_of_in}
-use Rattle.tierra_model.proofs.Yards.{renamed, renamed-new, stands_as, map-cong, with_standing-map, stands-fits, map-error_move, map-good_move, without_place-map, without_place-filter, map-filter-cong, map-cong-in, is_his-renamed}
+use Rattle.tierra_model.proofs.Yards.{renamed, renamed-new, stands_as, map-cong, with_standing-map, stands-fits, map-error_move, map-good_move, without_place-map, without_place-filter, map-filter-cong, map-cong-in, is_standing_of-renamed}
 use Rattle.tierra_model.proofs.Tidy.{Tidy, front-with_birth, owners-mark, owners-divide, owners-reap}
 use Rattle.tierra_model.proofs.Happens.{leads, tidy, owners-mal, victim_here}
 
@@ -340,22 +340,22 @@ yard-mark n e c standings v l f same h k y =
 
 -- the moves of the mover c, where u is the world and its front is the mover
 yard-up : (n : ℕ) (c : Creature) (u : World) → c.id ≡ (front u).id → c.id < n → c.id < 2 ^ 63
-    → error_move (is_his c) (λ x. x.errors) (map (stands_as n u.living) u.reaper)
+    → error_move (is_standing_of c) (λ x. x.errors) (map (stands_as n u.living) u.reaper)
     ≡ map (stands_as n u.living) (error_move (has_id (front u)) (errors_in u) u.reaper)
 yard-up n c u same h k =
-    sym (map-error_move (stands_as n u.living) (is_his c) (λ x. x.errors) u.reaper)
+    sym (map-error_move (stands_as n u.living) (is_standing_of c) (λ x. x.errors) u.reaper)
     ∙ ap (map (stands_as n u.living))
-    (error_move-cong (λ id. is_his c (stands_as n u.living id)) (has_id (front u)) (λ id. (stands_as n u.living id).errors) (errors_in u)
-    (λ id. is_his-renamed n c.id (front u).id h k same id) (λ id. refl) u.reaper)
+    (error_move-cong (λ id. is_standing_of c (stands_as n u.living id)) (has_id (front u)) (λ id. (stands_as n u.living id).errors) (errors_in u)
+    (λ id. is_standing_of-renamed n c.id (front u).id h k same id) (λ id. refl) u.reaper)
 
 yard-down : (n : ℕ) (c : Creature) (u : World) → c.id ≡ (front u).id → c.id < n → c.id < 2 ^ 63
-    → good_move (is_his c) (λ x. x.errors) (map (stands_as n u.living) u.reaper)
+    → good_move (is_standing_of c) (λ x. x.errors) (map (stands_as n u.living) u.reaper)
     ≡ map (stands_as n u.living) (good_move (has_id (front u)) (errors_in u) u.reaper)
 yard-down n c u same h k =
-    sym (map-good_move (stands_as n u.living) (is_his c) (λ x. x.errors) u.reaper)
+    sym (map-good_move (stands_as n u.living) (is_standing_of c) (λ x. x.errors) u.reaper)
     ∙ ap (map (stands_as n u.living))
-    (good_move-cong (λ id. is_his c (stands_as n u.living id)) (has_id (front u)) (λ id. (stands_as n u.living id).errors) (errors_in u)
-    (λ id. is_his-renamed n c.id (front u).id h k same id) (λ id. refl) u.reaper)
+    (good_move-cong (λ id. is_standing_of c (stands_as n u.living id)) (has_id (front u)) (λ id. (stands_as n u.living id).errors) (errors_in u)
+    (λ id. is_standing_of-renamed n c.id (front u).id h k same id) (λ id. refl) u.reaper)
 
 yard-with_newborn : (n k : ℕ) (s : Scene) (v : World) (d : Option Block) (mother : ℕ) (known : List Genotype) → Tidy v → v.next_birth ≡ n + k
     → YardAlike n s.yard v → YardAlike n (with_newborn (k + 1) d s).yard (with_birth known d mother v)
@@ -385,10 +385,10 @@ yard-told n k s v (event.Write at value) l t c f same old small next y = y
 yard-told n k s v event.Err l t c f same old small next y =
     let e : Event = event.Err in
     let u : World = mark e v in
-    ap (error_move (is_his (record_after e s.front)) (λ x. x.errors)) (yard-mark n e s.front s.yard v l f same old (omega arith) y)
+    ap (error_move (is_standing_of (record_after e s.front)) (λ x. x.errors)) (yard-mark n e s.front s.yard v l f same old (omega arith) y)
     ∙ yard-up n (record_after e s.front) u (same ∙ sym (front-id u (led-put (record_after e (front v)) v l))) old (omega arith)
 yard-told n k s v event.Good l t c f same old small next y =
-    ap (good_move (is_his s.front) (λ x. x.errors)) y
+    ap (good_move (is_standing_of s.front) (λ x. x.errors)) y
     ∙ yard-down n s.front v (same ∙ sym (front-id v l)) old (omega arith)
 yard-told n k s v event.GiveUp l t c f same old small next y = yard-mark n event.GiveUp s.front s.yard v l f same old (omega arith) y
 yard-told n k s v (event.Mal at size) l t c f same old small next y =

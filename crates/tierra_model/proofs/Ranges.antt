@@ -98,7 +98,7 @@ are_groups : (w : World) (m : ℕ) → IsSound w → All IsGroup (groups_below w
 are_groups w zero s = All-nil IsGroup
 are_groups w (suc q) s =
     All-append IsGroup (groups_below w q) (group_if_any q (saved_in q w)) (are_groups w q s)
-    (is_group q (saved_in q w) (are_saved w q w.saved s (known_of w s) s.kept) (omega (arith, bytes_most w.genotypes q w.saved, s.sizes q)))
+    (is_group q (saved_in q w) (are_saved w q w.saved s (known_of w s) s.saved_efforts) (omega (arith, bytes_most w.genotypes q w.saved, s.sizes q)))
 
 pub bank_in_range : BankInRange
 bank_in_range setup n h few =

@@ -20,7 +20,7 @@ pub record Saves (q z save_at : ℕ) (gs : List Genotype) (saved : List Saving) 
   pub known : All (λ s. s.genotype < length gs) saved
   pub rising : Rising 0 saved
   pub past : All (λ s. s.quantum ≤ q) saved
-  pub kept : All KeepsEfforts saved
+  pub efforts : All KeepsEfforts saved
   pub sizes : (p : ℕ) → p ≢ q → saved_size gs saved p < 2 ^ 30
   pub size : saved_size gs saved q ≤ z
 
@@ -102,7 +102,7 @@ saves-with_individual q z a gs hs code k saved c f s = elim (eqb_tells (genotype
           known = known;
           rising = s.rising;
           past = s.past;
-          kept = s.kept;
+          efforts = s.efforts;
           sizes = λ p h. rw (same p) (s.sizes p h);
           size = omega (arith, same q, s.size);
         }
@@ -114,7 +114,7 @@ saves-with_individual q z a gs hs code k saved c f s = elim (eqb_tells (genotype
           known = All-push (Among (length hs)) saved new known c.among;
           rising = rising-push 0 q saved new (omega arith) refl s.rising s.past;
           past = All-push (By q) saved new s.past (omega arith);
-          kept = All-push KeepsEfforts saved new s.kept (efforts_at hs k f c.among);
+          efforts = All-push KeepsEfforts saved new s.efforts (efforts_at hs k f c.among);
           sizes = λ p h. (let w = weight-other hs k q p h in let o = same p in let t = s.sizes p h in
               let sum = sum_of-append (weight hs p) saved (new ∷ []) in omega arith);
           size = (let w = weight-same hs code k q c.coded in let o = same q in let t = s.size in

@@ -11,7 +11,7 @@ use Rattle.tierra_model.specs.Quantum.{world_machine, run, quantum, slice_of}
 use Rattle.tierra_model.specs.Counting.{times_in, one_if}
 use Rattle.tierra_model.specs.Living.{ids_of}
 use Rattle.tierra_model.specs.World.{World, Genotype, Saving, front, first_of, genotype_at}
-use Rattle.tierra_model.specs.Sound.{IsSound, numbers_of, saved_size, limit}
+use Rattle.tierra_model.specs.Sound.{IsSound, numbers_of, saved_size, count_limit}
 use Rattle.tierra_model.specs.Events.{turn_end}
 use Rattle.tierra_model.proofs.Living.{is_here}
 use Rattle.tierra_model.proofs.Owners.{is_here-times, times_in-append}
@@ -139,10 +139,10 @@ known_of w s = each_among (length w.genotypes) w.saved (λ k m. go k m (nat_lt k
         let low : one_if (nat_le w.settings.save_at (genotype_at w.genotypes k).total) ≡ 0 = grind (arith, nat_tests) in
         absurd (omega arith)
 
-pub begins_during : (w : World) → IsSound w → During w.settings (limit w.quanta) (limit w.quanta) (limit w.quanta) 0 (w.quanta + 1) w
+pub begins_during : (w : World) → IsSound w → During w.settings (count_limit w.quanta) (count_limit w.quanta) (count_limit w.quanta) 0 (w.quanta + 1) w
 begins_during w s =
     let n : ℕ = w.settings.soup_size in
-    let l : ℕ = limit w.quanta in
+    let l : ℕ = count_limit w.quanta in
     record {
       core = record {
         led = sound_led w s;
@@ -177,7 +177,7 @@ begins_during w s =
         known = known_of w s;
         rising = s.rising;
         past = All-weaker (By w.quanta) (By (w.quanta + 1)) (λ x h. omega arith) w.saved s.past;
-        kept = s.kept;
+        efforts = s.saved_efforts;
         sizes = λ p h. s.sizes p;
         size = (let z = nothing_saved w.genotypes w.saved w.quanta (w.quanta + 1) (omega arith) s.past in omega arith);
       };
@@ -200,11 +200,11 @@ sizes_below gs saved q z p h k l = elim (eqb_tells p q) [
   | inr e ↦ h p e.1
 ]
 
-ended_in : (e m b z q : ℕ) (w : World) → During w.settings e m b z q w → e ≤ limit q → m ≤ limit q → b ≤ limit q → z < 2 ^ 30 → q ≤ 4000000 → IsSound (turn_end w)
+ended_in : (e m b z q : ℕ) (w : World) → During w.settings e m b z q w → e ≤ count_limit q → m ≤ count_limit q → b ≤ count_limit q → z < 2 ^ 30 → q ≤ 4000000 → IsSound (turn_end w)
 ended_in e m b z q w d he hm hb hz hq =
     let c = d.core in
     let n : ℕ = w.settings.soup_size in
-    let same : limit q ≡ limit (w.quanta + 1) = ap limit (sym d.number) in
+    let same : count_limit q ≡ count_limit (w.quanta + 1) = ap count_limit (sym d.number) in
     let fine : All (Fine n e m) w.living = all_from_each (Fine n e m) w.living c.each in
     record {
       cells = c.cells;
@@ -233,11 +233,11 @@ ended_in e m b z q w d he hm hb hz hq =
       saved = d.saves.once;
       rising = d.saves.rising;
       past = λ k x h. (let t = d.saves.past k x h in omega (arith, d.number));
-      kept = d.saves.kept;
+      saved_efforts = d.saves.efforts;
       sizes = λ p. sizes_below w.genotypes w.saved q z p d.saves.sizes d.saves.size hz;
     }
 
-pub ended_sound : (s : Settings) (e m b z q : ℕ) (w : World) → During s e m b z q w → e ≤ limit q → m ≤ limit q → b ≤ limit q → z < 2 ^ 30 → q ≤ 4000000 → IsSound (turn_end w)
+pub ended_sound : (s : Settings) (e m b z q : ℕ) (w : World) → During s e m b z q w → e ≤ count_limit q → m ≤ count_limit q → b ≤ count_limit q → z < 2 ^ 30 → q ≤ 4000000 → IsSound (turn_end w)
 ended_sound s e m b z q w d he hm hb hz hq = ended_in e m b z q w (subst (λ t. During t e m b z q w) (sym d.settings) d) he hm hb hz hq
 
 -- ---- a quantum
@@ -251,9 +251,9 @@ slice_few size s = go s.slice_by_size
 
 -- the bounds at the end of a quantum
 quantum_during : (w : World) (k : ℕ) → IsSound w
-    → During w.settings (limit w.quanta + k) (limit w.quanta + k) (limit w.quanta + k) (0 + 20100 * k) (w.quanta + 1) (run world_machine w.settings (w.quanta + 1) k w)
+    → During w.settings (count_limit w.quanta + k) (count_limit w.quanta + k) (count_limit w.quanta + k) (0 + 20100 * k) (w.quanta + 1) (run world_machine w.settings (w.quanta + 1) k w)
 quantum_during w k s =
-    let l : ℕ = limit w.quanta in
+    let l : ℕ = count_limit w.quanta in
     runs w.settings l l l 0 (w.quanta + 1) k w (begins_during w s)
 
 pub quantum-quanta : (w : World) → IsSound w → (quantum w).quanta ≡ w.quanta + 1
@@ -268,7 +268,7 @@ pub quantum_sound : (w : World) → IsSound w → w.quanta < 4000000 → IsSound
 unfolding quantum
 quantum_sound w s h =
     let k : ℕ = slice_of (front w).own.size w.settings in
-    let l : ℕ = limit w.quanta in
+    let l : ℕ = count_limit w.quanta in
     let q : ℕ = w.quanta + 1 in
     let few : k ≤ 10000 = slice_few (front w).own.size w.settings in
     ended_sound w.settings (l + k) (l + k) (l + k) (0 + 20100 * k) q (run world_machine w.settings q k w)

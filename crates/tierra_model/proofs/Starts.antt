@@ -159,7 +159,7 @@ empty_starts s cs apart =
         known = All-nil _;
         rising = tt;
         past = All-nil _;
-        kept = All-nil _;
+        efforts = All-nil _;
         sizes = λ p h. omega arith;
         size = omega arith;
       };
@@ -209,7 +209,7 @@ started_sound k z w some few small d =
       saved = d.saves.once;
       rising = d.saves.rising;
       past = λ j x h. (let t = d.saves.past j x h in omega arith);
-      kept = d.saves.kept;
+      saved_efforts = d.saves.efforts;
       sizes = λ p. sizes_below w.genotypes w.saved 0 z p d.saves.sizes d.saves.size small;
     }
 

@@ -192,5 +192,5 @@ map-cong-in f g (x ∷ xs) h =
 
 -- ---- the one that moves
 
-pub is_his-renamed : (next c d : ℕ) → c < next → c < 2 ^ 63 → c ≡ d → (id : ℕ) → (renamed next id == c) ≡ (id == d)
-is_his-renamed next c d h k e id = renamed-is next id c h k ∙ ap (λ (n : ℕ). id == n) e
+pub is_standing_of-renamed : (next c d : ℕ) → c < next → c < 2 ^ 63 → c ≡ d → (id : ℕ) → (renamed next id == c) ≡ (id == d)
+is_standing_of-renamed next c d h k e id = renamed-is next id c h k ∙ ap (λ (n : ℕ). id == n) e

@@ -1,14 +1,16 @@
 -- The laws on soundness, and on the genebank.
-use Rattle.std.specs.Prelude.{All, List, false, ℕ, ◌+◌, ◌<◌, ◌≡◌, ◌≢◌, ◌≤◌}
+use Rattle.std.specs.Prelude.{All, List, Option, false, length, true, ℕ, ◌*◌, ◌+◌, ◌/◌, ◌<◌, ◌≡◌, ◌≢◌, ◌≤◌}
 use Rattle.tierra_model.specs.declared.creatures.Creature.{Creature}
 use Rattle.tierra_model.specs.declared.creatures.Standing.{Standing}
 use Rattle.tierra_model.specs.Queue.{error_move, good_move}
-use Rattle.tierra_model.specs.Quantum.{quantum}
-use Rattle.tierra_model.specs.World.{World}
+use Rattle.tierra_model.specs.Counting.{times_in}
+use Rattle.tierra_model.specs.Quantum.{disturb, flip, quantum, reap_times, world_machine}
+use Rattle.tierra_model.specs.World.{World, first_of}
 use Rattle.tierra_model.specs.Sound.{IsSound}
 use Rattle.tierra_model.specs.Setups.{IsSetup, SetupFields}
 use Rattle.tierra_model.specs.Serial.{serial}
-use Rattle.tierra_model.specs.Yard.{is_his, stand_in}
+use Rattle.tierra_model.specs.Yard.{is_standing_of, stand_in}
+use Rattle.tierra_model.specs.Reads.{ahead}
 use Rattle.tierra_model.specs.Groups.{IsGroup}
 use Rattle.tierra_model.specs.Genebank.{bank, groups_of}
 
@@ -30,6 +32,20 @@ pub record IsSerialRun (setup : SetupFields) (n : ℕ) : Type 0 where
 abbrev pub SerialIsSound : Type 0
 SerialIsSound = (setup : SetupFields) (n : ℕ) → IsSetup setup → n ≤ 4000000 → IsSerialRun setup n
 
+-- Turned so that a living creature is at the front, before any quantum to come, a sound world is sound.
+pub record TurnsSound (w : World) (q id : ℕ) : Type 0 where
+  pub sound : IsSound (ahead w q id)
+  pub front : first_of (ahead w q id).slicer ≡ id
+
+abbrev pub AheadIsSound : Type 0
+AheadIsSound = (w : World) (q id : ℕ) → IsSound w → w.quanta + 1 ≤ q → q ≤ 4000000 → 0 < times_in w.slicer id → TurnsSound w q id
+
+-- The disturbance of a sound world, which comes after the background flip, counts the living.
+abbrev pub DisturbanceCountsLiving : Type 0
+DisturbanceCountsLiving = (w : World) (bit : Option (ℕ × ℕ)) → IsSound w
+    → disturb world_machine w.settings true (flip world_machine w.settings bit w)
+    ≡ reap_times world_machine w.settings (length w.living * w.settings.dist_percent / 100) (flip world_machine w.settings bit w)
+
 -- The groups of the world after n quanta are the genebank of a run of n quanta.
 abbrev pub BankIsGroups : Type 0
 BankIsGroups = (setup : SetupFields) (n : ℕ) → IsSetup setup → n ≤ 4000000 → groups_of (serial setup n) ≡ bank setup (n + 1)
@@ -42,5 +58,5 @@ BankInRange = (setup : SetupFields) (n : ℕ) → IsSetup setup → n ≤ 400000
 abbrev pub YardsAreSafe : Type 0
 YardsAreSafe =
     ((w : World) (k : ℕ) → IsSound w → All (λ c. c.id ≢ stand_in k) w.living)
-    × ((c : Creature) (errors : Standing → ℕ) (standings : List Standing) → All (λ x. is_his c x ≡ false) standings
-    → (error_move (is_his c) errors standings ≡ standings) × (good_move (is_his c) errors standings ≡ standings))
+    × ((c : Creature) (errors : Standing → ℕ) (standings : List Standing) → All (λ x. is_standing_of c x ≡ false) standings
+    → (error_move (is_standing_of c) errors standings ≡ standings) × (good_move (is_standing_of c) errors standings ≡ standings))

@@ -11,7 +11,7 @@ use Rattle.tierra_model.specs.Blocks.{is_in, is_in_daughter}
 use Rattle.tierra_model.specs.World.{World, front}
 use Rattle.tierra_model.specs.Events.{record_after}
 use Rattle.tierra_model.specs.FreeList.{free_list, is_in_some, runs_of}
-use Rattle.tierra_model.specs.Yard.{is_his, no_standing, stand_in, with_standing, yard}
+use Rattle.tierra_model.specs.Yard.{is_standing_of, no_standing, stand_in, with_standing, yard}
 
 pub record Scene : Type 0 where
   pub settings : Settings
@@ -47,8 +47,8 @@ unfoldable pub apply_in_scene : ℕ → Scene → Event → Scene
 apply_in_scene k s (event.Write at value) = record s { soup = slice_set s.soup at value }
 apply_in_scene k s event.Err =
     let t = set_front (record_after event.Err s.front) s in
-    record t { yard = error_move (is_his t.front) (λ x. x.errors) t.yard }
-apply_in_scene k s event.Good = record s { yard = good_move (is_his s.front) (λ x. x.errors) s.yard }
+    record t { yard = error_move (is_standing_of t.front) (λ x. x.errors) t.yard }
+apply_in_scene k s event.Good = record s { yard = good_move (is_standing_of s.front) (λ x. x.errors) s.yard }
 apply_in_scene k s event.GiveUp =
     set_front (record_after event.GiveUp s.front) (with_freed (is_in_daughter s.front.daughter) s)
 apply_in_scene k s (event.Mal at size) =

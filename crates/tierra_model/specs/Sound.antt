@@ -45,8 +45,8 @@ saved_size genotypes saved q =
     sum_of (λ s. if s.quantum == q then length (genotype_at genotypes s.genotype).code + 100 else 0) saved
 
 -- what the counts of a world may come to
-abbrev pub limit : ℕ → ℕ
-limit quanta = 2 ^ 40 + 10000 * quanta
+abbrev pub count_limit : ℕ → ℕ
+count_limit quanta = 2 ^ 40 + 10000 * quanta
 
 -- each is above the one before it, and the first is not below k
 abbrev pub Ordered : ℕ → List ℕ → Type 0
@@ -55,33 +55,38 @@ Ordered k (x ∷ xs) = (k ≤ x) × Ordered (x + 1) xs
 
 -- (The types of Rust give the ranges of registers and flag, and the length of the stack.)
 pub record IsSound (w : World) : Type 0 where
+  -- the soup
   pub cells : length w.soup ≡ w.settings.soup_size
   pub codes : All (λ v. v < 32) w.soup
+  -- the lists: there is a living creature, and each list has every one of them once
   pub some : 0 < length w.living
   pub ordered : Ordered 1 (ids_of w.living)
   pub once : (id : ℕ) → times_in (ids_of w.living) id ≤ 1
   pub slicer : (id : ℕ) → times_in w.slicer id ≡ times_in (ids_of w.living) id
   pub reaper : (id : ℕ) → times_in w.reaper id ≡ times_in (ids_of w.living) id
+  -- the blocks: no two share a cell
   pub placed : All (IsPlaced w.settings.soup_size) w.living
   pub apart : (p : ℕ) → owners w.living p ≤ 1
+  -- the processors
   pub processor : All (λ c. (c.ip < w.settings.soup_size) × (c.sp < 10)) w.living
+  -- birth numbers and counts
   pub genotype : All (λ c. c.genotype < length w.genotypes) w.living
   pub numbers : All (λ c. (1 ≤ c.id) × (c.id < w.next_birth)) w.living
   pub births : w.births < w.next_birth
   pub genotype_count : length w.genotypes < w.next_birth
   pub living_and_dead : length w.living + w.deaths + 1 ≡ w.next_birth
   pub quanta : w.quanta ≤ 4000000
-  pub next_birth : w.next_birth ≤ limit w.quanta
-  pub small : All (λ c. (c.errors ≤ limit w.quanta) × (c.moved ≤ limit w.quanta) × (c.ran ≤ limit w.quanta) × (c.bred ≤ limit w.quanta)) w.living
-  -- genotypes
+  pub next_birth : w.next_birth ≤ count_limit w.quanta
+  pub small : All (λ c. (c.errors ≤ count_limit w.quanta) × (c.moved ≤ count_limit w.quanta) × (c.ran ≤ count_limit w.quanta) × (c.bred ≤ count_limit w.quanta)) w.living
+  -- the genotypes: no two have the same code
   pub coded_once : (code : List ℕ) → times_coded w.genotypes code ≤ 1
   pub written : All (λ g. IsCode g.code) w.genotypes
   pub parents : ParentsBelow 0 w.genotypes
-  pub totals : All (λ g. g.total ≤ limit w.quanta) w.genotypes
+  pub totals : All (λ g. g.total ≤ count_limit w.quanta) w.genotypes
   pub efforts : All (λ g. AreEfforts g.first_effort g.second_effort) w.genotypes
   -- the saved genotypes: each once, those whose total is at least save_at (past the end of the genotypes the total is 0, and save_at is at least 1)
   pub saved : (k : ℕ) → times_in (numbers_of w.saved) k ≡ one_if (nat_le w.settings.save_at (genotype_at w.genotypes k).total)
   pub rising : Rising 0 w.saved
   pub past : All (λ s. s.quantum ≤ w.quanta) w.saved
-  pub kept : All (λ s. AreEfforts s.first_effort s.second_effort) w.saved
+  pub saved_efforts : All (λ s. AreEfforts s.first_effort s.second_effort) w.saved
   pub sizes : (q : ℕ) → saved_size w.genotypes w.saved q < 2 ^ 30

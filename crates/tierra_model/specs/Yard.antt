@@ -16,8 +16,8 @@ yard w = map (λ id. standing (one_of w.living id)) w.reaper
 abbrev pub with_standing : Creature → List Standing → List Standing
 with_standing c standings = map (λ x. if x.id == c.id then standing c else x) standings
 
-abbrev pub is_his : Creature → Standing → Bool
-is_his c x = x.id == c.id
+abbrev pub is_standing_of : Creature → Standing → Bool
+is_standing_of c x = x.id == c.id
 
 -- for what is past the end of a yard
 abbrev pub no_standing : Standing

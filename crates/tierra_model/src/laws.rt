@@ -2,7 +2,7 @@
 
 ghost use Rattle.tierra_model.specs.Findings.{LawOfFindings};
 ghost use Rattle.tierra_model.specs.Difference.{DifferenceTells, LeastPlace};
-ghost use Rattle.tierra_model.specs.Laws.{QuantumIsSound, SerialIsSound, BankIsGroups, BankInRange, YardsAreSafe};
+ghost use Rattle.tierra_model.specs.Laws.{QuantumIsSound, SerialIsSound, BankIsGroups, BankInRange, YardsAreSafe, AheadIsSound, DisturbanceCountsLiving};
 ghost use Rattle.tierra_model.specs.Nearest.{NearestIsFound};
 ghost use Rattle.tierra_model.specs.Room.{FirstFitIsLeast};
 ghost use Rattle.tierra_model.specs.Log.{SceneAlone};
@@ -20,6 +20,16 @@ pub fn quantum_is_sound()
 /// Does nothing: its contract is the law that every world of a serial run is sound.
 pub fn serial_is_sound()
     ensures { SerialIsSound }
+{}
+
+/// Does nothing: its contract is the law that a sound world turned ahead, to a living creature and a quantum to come, is sound.
+pub fn ahead_is_sound()
+    ensures { AheadIsSound }
+{}
+
+/// Does nothing: its contract is the law that the disturbance of a sound world counts the living.
+pub fn disturbance_counts_living()
+    ensures { DisturbanceCountsLiving }
 {}
 
 /// Does nothing: its contract is the law that there is no first difference exactly where reads agree.

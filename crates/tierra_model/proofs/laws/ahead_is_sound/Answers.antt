@@ -1,0 +1,5 @@
+use Rattle.tierra_model.proofs.Ahead.{ahead_sound}
+use Rattle.tierra_model.proofs.laws.ahead_is_sound.Goals as goal
+
+pub returns : goal.returns
+returns c = ahead_sound
