@@ -1,5 +1,5 @@
 -- Neighbours of the laws on findings and scenes that are false: each fails in a small world.
-use Rattle.std.proofs.Common.{◌≡◌, ◌+◌, true, [], ◌∷◌, ◌++◌, lit≤, refl, ap}
+use Rattle.std.proofs.Common.{◌≡◌, ℕ, ◌≤◌, arith, ◌+◌, true, [], ◌∷◌, ◌++◌, lit≤, refl, ap}
 use Rattle.std.specs.Prelude.{Some, None, pos, if◌then◌else◌, length, slice_index, slice_set, take, unwrap_or}
 use Rattle.std.proofs.lemmas.Bool.{eqb-false}
 use Rattle.tierra_model.specs.Blocks.{no_block}
@@ -8,26 +8,20 @@ use Rattle.tierra_model.specs.Living.{one_of}
 use Rattle.tierra_model.specs.World.{World, front}
 use Rattle.tierra_model.specs.Sound.{IsSound}
 use Rattle.tierra_model.specs.Setups.{SetupFields}
-use Rattle.tierra_model.specs.Serial.{start}
+use Rattle.tierra_model.specs.Serial.{start, serial}
 use Rattle.tierra_model.specs.FreeList.{free_list}
 use Rattle.tierra_model.specs.Yard.{yard}
 use Rattle.tierra_model.specs.Scene.{Scene, scene_of}
 use Rattle.tierra_model.specs.Reads.{Reads, is_noted}
-use Rattle.tierra_model.specs.SceneRun.{SceneRun, scene_machine, run_in_scene, run_start, reads_of}
+use Rattle.tierra_model.specs.SceneRun.{SceneRun, scene_machine, run_start, reads_of}
 use Rattle.tierra_model.specs.Log.{touched}
 use Rattle.tierra_model.specs.Replay.{replay}
-use Rattle.tierra_model.specs.Findings.{Finding, Stands, Agrees, CellsAgree, SameIfSome, FindingReplays}
+use Rattle.tierra_model.specs.Findings.{finding_of, Finding, Stands, Agrees, CellsAgree, SameIfSome, FindingReplays}
 use Rattle.tierra_model.proofs.Differs.{cells-agree}
 use Rattle.tierra_model.proofs.LawOfFindings.{law}
 use Rattle.tierra_model.proofs.Starts.{serial_sound}
 use Rattle.tierra_model.proofs.Examples.{four, hundred, two, is_setup}
 use Rattle.tierra_model.proofs.Computing.{scenes}
-
--- what the quantum of a scene finds
-abbrev finding_of : Scene → Finding
-finding_of s =
-    let x = run_in_scene s in
-    record { settings = s.settings; quantum = s.quanta + 1; before = s.front; reads = reads_of x; events = x.events; after = x.now.front }
 
 -- ---- the law of findings needs each of its premises
 
@@ -142,6 +136,18 @@ settings_needed claim =
     let agrees : Agrees f.reads f.before w = record { front = refl; cells = cells-agree f.reads.cells w refl; free = tt; yard = tt } in
     let r = claim f w s stands (refl, agrees) in
     eqb-false 9 26 refl (ap (λ (v : World). slice_index v.soup 0) r.quantum)
+
+-- ---- findings end with the last quantum
+
+abbrev StandsTo : ℕ → Type 0
+StandsTo most = (w : World) → IsSound w → w.quanta ≤ most → Stands (finding_of (scene_of w))
+
+pub not_after_the_last : StandsTo 4000000 → ⊥
+unfolding scene_of
+not_after_the_last claim =
+    let last = serial_sound two 4000000 (is_setup two (lit≤ tt) refl) (lit≤ tt) in
+    let stands = claim (serial two 4000000) last.sound (omega (arith, last.quanta)) in
+    omega (arith, stands.at_most_limit, last.quanta)
 
 -- ---- a scene notes no more than its world
 

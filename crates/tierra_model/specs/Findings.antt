@@ -1,5 +1,5 @@
 -- Findings: what a quantum that ran alone found, and when it is that of a world.
-use Rattle.std.specs.Prelude.{List, None, Option, Some, [], replicate, slice_index, slice_set, unwrap_or, ℕ, ◌+◌, ◌-◌, ◌∷◌, ◌≡◌, ◌≤◌}
+use Rattle.std.specs.Prelude.{List, None, Option, Some, [], replicate, slice_index, slice_set, unwrap_or, ℕ, ◌+◌, ◌-◌, ◌∷◌, ◌<◌, ◌≡◌, ◌≤◌}
 use Rattle.tierra_model.specs.declared.creatures.Creature.{Creature}
 use Rattle.tierra_model.specs.declared.events.Event.{Event}
 use Rattle.tierra_model.specs.declared.parameters.Settings.{Settings}
@@ -8,7 +8,7 @@ use Rattle.tierra_model.specs.World.{World, front}
 use Rattle.tierra_model.specs.Sound.{IsSound}
 use Rattle.tierra_model.specs.FreeList.{free_list}
 use Rattle.tierra_model.specs.Yard.{yard}
-use Rattle.tierra_model.specs.Scene.{Scene}
+use Rattle.tierra_model.specs.Scene.{Scene, scene_of}
 use Rattle.tierra_model.specs.Reads.{Reads}
 use Rattle.tierra_model.specs.SceneRun.{reads_of, run_in_scene}
 use Rattle.tierra_model.specs.Replay.{EventsFit, replay}
@@ -20,6 +20,19 @@ pub record Finding : Type 0 where
   pub reads : Reads
   pub events : List Event
   pub after : Creature
+
+-- what the quantum of a scene finds
+abbrev pub finding_of : Scene → Finding
+finding_of scene =
+    let x = run_in_scene scene in
+    record {
+      settings = scene.settings;
+      quantum = scene.quanta + 1;
+      before = scene.front;
+      reads = reads_of x;
+      events = x.events;
+      after = x.now.front;
+    }
 
 -- the soup with what was seen in each cell
 abbrev pub seen_soup : List (ℕ × ℕ) → List ℕ → List ℕ
@@ -45,6 +58,10 @@ pub record Stands (f : Finding) : Type 0 where
   pub after : (run_in_scene (scene_of_finding f)).now.front ≡ f.after
   pub at_least_one : 1 ≤ f.quantum
   pub at_most_limit : f.quantum ≤ 4000000
+
+-- What the quantum of a sound world finds in its scene stands: a scene that holds only what was read runs alike.
+abbrev pub FindingStands : Type 0
+FindingStands = (w : World) → IsSound w → w.quanta < 4000000 → Stands (finding_of (scene_of w))
 
 abbrev pub CellsAgree : List (ℕ × ℕ) → World → Type 0
 CellsAgree [] w = Unit {0}

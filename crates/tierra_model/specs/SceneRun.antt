@@ -24,7 +24,7 @@ abbrev pub is_known : SceneRun → ℕ → Bool
 is_known x p = is_noted x.cells p || list_any (writes p) x.events
 
 unfoldable pub with_noted_cell : SceneRun → ℕ → SceneRun
-with_noted_cell x p = record x { cells = (if is_known x p then x.cells else x.cells ++ (p, slice_index x.now.soup p) ∷ []) }
+with_noted_cell x p = record x { cells = (if is_known x p then x.cells else x.cells ++ (p, slice_index x.start.soup p) ∷ []) }
 
 abbrev pub births_of : Event → ℕ
 births_of (event.Write at value) = 0

@@ -1,6 +1,6 @@
 //! Laws of the definitions: functions that do nothing, each with its law as its contract.
 
-ghost use Rattle.tierra_model.specs.Findings.{LawOfFindings};
+ghost use Rattle.tierra_model.specs.Findings.{FindingStands, LawOfFindings};
 ghost use Rattle.tierra_model.specs.Difference.{DifferenceTells, LeastPlace};
 ghost use Rattle.tierra_model.specs.Laws.{QuantumIsSound, SerialIsSound, BankIsGroups, BankInRange, YardsAreSafe, AheadIsSound, DisturbanceCountsLiving};
 ghost use Rattle.tierra_model.specs.Nearest.{NearestIsFound};
@@ -10,6 +10,11 @@ ghost use Rattle.tierra_model.specs.Log.{SceneAlone};
 /// Does nothing: its contract is the law that a finding which stands and agrees is the quantum.
 pub fn law_of_findings()
     ensures { LawOfFindings }
+{}
+
+/// Does nothing: its contract is the law that what the quantum of a sound world finds in its scene stands.
+pub fn finding_stands()
+    ensures { FindingStands }
 {}
 
 /// Does nothing: its contract is the law that sound worlds stay sound.

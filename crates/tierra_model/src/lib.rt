@@ -20,8 +20,8 @@ pub use genebank::{Form, Group, Groups, Name, Saved, SavedList};
 pub use history::{Entry, How, Stale};
 pub use laws::{
     ahead_is_sound, bank_in_range, bank_is_groups, difference_tells, disturbance_counts_living,
-    first_fit_is_least, law_of_findings, least_place, nearest_is_found, quantum_is_sound,
-    scene_alone, serial_is_sound, yards_are_safe,
+    finding_stands, first_fit_is_least, law_of_findings, least_place, nearest_is_found,
+    quantum_is_sound, scene_alone, serial_is_sound, yards_are_safe,
 };
 pub use lists::{Code, EventList, FreeList, Text, Yard};
 pub use ops::Op;

@@ -1,4 +1,4 @@
-use Rattle.tierra_model.proofs.LawOfFindings.{scene_alone}
+use Rattle.tierra_model.proofs.SceneAlone.{scene_alone}
 use Rattle.tierra_model.proofs.laws.scene_alone.Goals as goal
 
 pub returns : goal.returns
