@@ -14,7 +14,7 @@ use Rattle.tierra_model.specs.Serial.{serial}
 use Rattle.tierra_model.specs.Genebank.{number_before, name_of, saved_of, saved_in, group_if_any, bank, groups_below}
 use Rattle.tierra_model.proofs.Sound.{known_of}
 use Rattle.tierra_model.proofs.Starts.{serial_sound}
-use Rattle.tierra_model.proofs.Grows.{Extends, Grows, In, grows-run}
+use Rattle.tierra_model.proofs.Grows.{Extends, AddsSavings, SavedIn, adds-run}
 
 -- ---- names stay
 
@@ -78,30 +78,30 @@ all_same q gs hs (s ∷ rest) a e b =
     go false h t = t
 
 -- later savings are of another quantum
-none_of : (q n : ℕ) (added : List Saving) → q < n → All (In n) added → of_quantum q added ≡ []
+none_of : (q n : ℕ) (added : List Saving) → q < n → All (SavedIn n) added → of_quantum q added ≡ []
 none_of q n [] h a = refl
 none_of q n (s ∷ rest) h a =
-    let first : s.quantum ≡ n = All-head (In n) s rest a in
+    let first : s.quantum ≡ n = All-head (SavedIn n) s rest a in
     elim (eqb_tells s.quantum q) [
       | inl e ↦ absurd (omega (arith, e.1))
-      | inr e ↦ ap (λ (c : Bool). cond c (s ∷ of_quantum q rest) (of_quantum q rest)) e.0 ∙ none_of q n rest h (All-tail (In n) s rest a)
+      | inr e ↦ ap (λ (c : Bool). cond c (s ∷ of_quantum q rest) (of_quantum q rest)) e.0 ∙ none_of q n rest h (All-tail (SavedIn n) s rest a)
     ]
 
 cond_cons : {X : Type 0} (c : Bool) (x : X) (xs ys : List X) → xs ≡ ys → cond c (x ∷ xs) xs ≡ cond c (x ∷ ys) ys
 cond_cons c x xs ys e = (λ i. cond c (x ∷ e i) (e i))
 
-of_quantum-old : (q n : ℕ) (saved added : List Saving) → q < n → All (In n) added → of_quantum q (saved ++ added) ≡ of_quantum q saved
+of_quantum-old : (q n : ℕ) (saved added : List Saving) → q < n → All (SavedIn n) added → of_quantum q (saved ++ added) ≡ of_quantum q saved
 of_quantum-old q n [] added h a = none_of q n added h a
 of_quantum-old q n (s ∷ rest) added h a =
     cond_cons (s.quantum == q) s (of_quantum q (rest ++ added)) (of_quantum q rest) (of_quantum-old q n rest added h a)
 
-saved_in-old : (q n : ℕ) (w v : World) → IsSound w → Grows n w v → q < n → saved_in q v ≡ saved_in q w
+saved_in-old : (q n : ℕ) (w v : World) → IsSound w → AddsSavings n w v → q < n → saved_in q v ≡ saved_in q w
 saved_in-old q n w v s g h =
     ap (λ (l : List Saving). map (saved_of v.genotypes) (of_quantum q l)) g.saved
     ∙ ap (λ (l : List Saving). map (saved_of v.genotypes) l) (of_quantum-old q n w.saved g.added h g.new)
     ∙ all_same q w.genotypes v.genotypes w.saved (known_of w s) g.genotypes s.parents
 
-groups_below-old : (m n : ℕ) (w v : World) → IsSound w → Grows n w v → m ≤ n → groups_below v m ≡ groups_below w m
+groups_below-old : (m n : ℕ) (w v : World) → IsSound w → AddsSavings n w v → m ≤ n → groups_below v m ≡ groups_below w m
 groups_below-old zero n w v s g h = refl
 groups_below-old (suc q) n w v s g h =
     let rest = groups_below-old q n w v s g (omega arith) in
@@ -115,7 +115,7 @@ unfolding quantum
 quantum_below m w s h =
     let q : ℕ = w.quanta + 1 in
     let k : ℕ = slice_of (front w).own.size w.settings in
-    groups_below-old m q w (run world_machine w.settings q k w) s (grows-run w.settings q k w refl) h
+    groups_below-old m q w (run world_machine w.settings q k w) s (adds-run w.settings q k w refl) h
 
 serial_below : (setup : SetupFields) (n : ℕ) → IsSetup setup → n ≤ 4000000 → groups_below (serial setup n) n ≡ bank setup n
 unfolding serial bank
