@@ -9,7 +9,7 @@ use Rattle.tierra_model.specs.Legal.{IsLegal}
 use Rattle.tierra_model.specs.Serial.{serial}
 use Rattle.tierra_model.specs.Groups.{GroupFields}
 use Rattle.tierra_model.specs.Genebank.{bank, groups_of, groups_from, in_form_one, GroupsFit}
-use Rattle.tierra_model.proofs.Banks.{bank_is_groups}
+use Rattle.tierra_model.proofs.BankIsGroups.{bank_is_groups}
 use Rattle.tierra_model.proofs.Computing.{quanta}
 use Rattle.tierra_model.proofs.Examples.{ancestor, late, soon, three, two, is_setup}
 

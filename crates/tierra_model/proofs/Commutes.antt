@@ -1,4 +1,4 @@
--- A record put into a world before an event, or its mark put in after it: the same.
+-- A record put into a world before an event, or its put_after put in after it: the same.
 use Rattle.std.proofs.Common.{◌≡◌, ℕ, ◌+◌, ◌<◌, Bool, true, List, [], ◌∷◌, ◌++◌, refl, sym, ◌∙◌, ap, inl, inr, length}
 use Rattle.std.specs.Prelude.{Some, None, Option, unwrap_or, ◌==◌, slice_index, slice_range}
 use Rattle.std.proofs.lemmas.Bool.Decides.{eqb_tells}
@@ -15,11 +15,11 @@ use Rattle.tierra_model.proofs.Shares.{Shares}
 use Rattle.tierra_model.proofs.Living.{is_here, find-with_same, find-with_other, with-with, is_here-with, without-with, with-append, one_of-id}
 
 -- the world has a creature at the front
-pub record Led (w : World) : Type 0 where
+pub record HasFront (w : World) : Type 0 where
   pub line : 0 < length w.slicer
   pub here : is_here w.living (first_of w.slicer) ≡ true
 
-pub front-put : (c : Creature) (w : World) → Led w → c.id ≡ first_of w.slicer → front (put c w) ≡ c
+pub front-put : (c : Creature) (w : World) → HasFront w → c.id ≡ first_of w.slicer → front (put c w) ≡ c
 front-put c w l e =
     rw (← e) (rw (find-with_same c w.living (rw (← e) at l.here)) refl)
 
@@ -40,7 +40,7 @@ pub good_move-cong : {X : Type 0} (m n : X → Bool) (e f : X → ℕ) → ((x :
 good_move-cong m n e f hm he xs = λ i. good_move (λ x. hm x i) (λ x. he x i) xs
 
 -- a record with the errors of the front changes nobody's
-pub errors-put : (c : Creature) (v : World) (id : ℕ) → Led v → c.id ≡ first_of v.slicer → c.errors ≡ (front v).errors
+pub errors-put : (c : Creature) (v : World) (id : ℕ) → HasFront v → c.id ≡ first_of v.slicer → c.errors ≡ (front v).errors
     → errors_in (put c v) id ≡ errors_in v id
 errors-put c v id l e h = elim (eqb_tells id c.id) [
   | inl k ↦
@@ -52,10 +52,10 @@ errors-put c v id l e h = elim (eqb_tells id c.id) [
 abbrev pub with_reaper : World → List ℕ → World
 with_reaper w l = record w { reaper = l }
 
-pub front-id : (v : World) → Led v → (front v).id ≡ first_of v.slicer
+pub front-id : (v : World) → HasFront v → (front v).id ≡ first_of v.slicer
 front-id v l = one_of-id v.living (first_of v.slicer) l.here
 
-pub with_error_move-put : (c : Creature) (v : World) → Led v → c.id ≡ first_of v.slicer → c.errors ≡ (front v).errors
+pub with_error_move-put : (c : Creature) (v : World) → HasFront v → c.id ≡ first_of v.slicer → c.errors ≡ (front v).errors
     → with_error_move (put c v) ≡ put c (with_error_move v)
 with_error_move-put c v l e h =
     ap (with_reaper (put c v))
@@ -63,7 +63,7 @@ with_error_move-put c v l e h =
     (λ id. ap (λ (n : ℕ). id == n) (ap (λ (d : Creature). d.id) (front-put c v l e) ∙ e ∙ sym (front-id v l)))
     (λ id. errors-put c v id l e h) v.reaper)
 
-pub with_good_move-put : (c : Creature) (v : World) → Led v → c.id ≡ first_of v.slicer → c.errors ≡ (front v).errors
+pub with_good_move-put : (c : Creature) (v : World) → HasFront v → c.id ≡ first_of v.slicer → c.errors ≡ (front v).errors
     → with_good_move (put c v) ≡ put c (with_good_move v)
 with_good_move-put c v l e h =
     ap (with_reaper (put c v))
@@ -71,8 +71,8 @@ with_good_move-put c v l e h =
     (λ id. ap (λ (n : ℕ). id == n) (ap (λ (d : Creature). d.id) (front-put c v l e) ∙ e ∙ sym (front-id v l)))
     (λ id. errors-put c v id l e h) v.reaper)
 
-pub led-put : (c : Creature) (v : World) → Led v → Led (put c v)
-led-put c v l = record { line = l.line; here = is_here-with c v.living (first_of v.slicer) ∙ l.here }
+pub has_front-put : (c : Creature) (v : World) → HasFront v → HasFront (put c v)
+has_front-put c v l = record { line = l.line; here = is_here-with c v.living (first_of v.slicer) ∙ l.here }
 
 -- ---- births
 
@@ -92,8 +92,8 @@ abbrev pub Commutes : World → Creature → Event → Type 0
 Commutes v c e = apply_event (put c v) e ≡ put (record_after e c) (apply_event v e)
 
 -- what an event that marks the record alone does
-abbrev pub mark : Event → World → World
-mark e w = put (record_after e (front w)) w
+abbrev pub put_after : Event → World → World
+put_after e w = put (record_after e (front w)) w
 
 pub record_after-id : (e : Event) (c : Creature) → (record_after e c).id ≡ c.id
 record_after-id (event.Write at value) c = refl
@@ -104,25 +104,25 @@ record_after-id (event.Mal at size) c = refl
 record_after-id (event.Reap place) c = refl
 record_after-id (event.Divide ran moved) c = refl
 
-pub mark-put : (e : Event) (v : World) (c : Creature) → Led v → c.id ≡ first_of v.slicer → mark e (put c v) ≡ put (record_after e c) v
-mark-put e v c l n =
+pub put_after-put : (e : Event) (v : World) (c : Creature) → HasFront v → c.id ≡ first_of v.slicer → put_after e (put c v) ≡ put (record_after e c) v
+put_after-put e v c l n =
     ap (λ (d : Creature). put (record_after e d) (put c v)) (front-put c v l n) ∙ put-put (record_after e c) c v (record_after-id e c)
 
-pub put-mark : (e : Event) (v : World) (c : Creature) → Led v → c.id ≡ first_of v.slicer → put (record_after e c) (mark e v) ≡ put (record_after e c) v
-put-mark e v c l n = put-put (record_after e c) (record_after e (front v)) v (record_after-id e c ∙ n ∙ sym (front-id v l) ∙ sym (record_after-id e (front v)))
+pub put-put_after : (e : Event) (v : World) (c : Creature) → HasFront v → c.id ≡ first_of v.slicer → put (record_after e c) (put_after e v) ≡ put (record_after e c) v
+put-put_after e v c l n = put-put (record_after e c) (record_after e (front v)) v (record_after-id e c ∙ n ∙ sym (front-id v l) ∙ sym (record_after-id e (front v)))
 
-pub commutes : (v : World) (c : Creature) (e : Event) → Led v → c.id ≡ first_of v.slicer → Shares (front v) c → Commutes v c e
+pub commutes : (v : World) (c : Creature) (e : Event) → HasFront v → c.id ≡ first_of v.slicer → Shares (front v) c → Commutes v c e
 unfolding apply_event
 commutes v c (event.Write at value) l n f = refl
 commutes v c event.Err l n f =
     let e : Event = event.Err in
     let d : Creature = record_after e (front v) in
-    ap with_error_move (mark-put e v c l n ∙ sym (put-mark e v c l n))
-    ∙ with_error_move-put (record_after e c) (put d v) (led-put d v l) n
+    ap with_error_move (put_after-put e v c l n ∙ sym (put-put_after e v c l n))
+    ∙ with_error_move-put (record_after e c) (put d v) (has_front-put d v l) n
     (ap (λ (k : ℕ). k + 1) f.errors ∙ sym (ap (λ (x : Creature). x.errors) (front-put d v l (front-id v l))))
 commutes v c event.Good l n f = with_good_move-put c v l n f.errors
-commutes v c event.GiveUp l n f = mark-put event.GiveUp v c l n ∙ sym (put-mark event.GiveUp v c l n)
-commutes v c (event.Mal at size) l n f = mark-put (event.Mal at size) v c l n ∙ sym (put-mark (event.Mal at size) v c l n)
+commutes v c event.GiveUp l n f = put_after-put event.GiveUp v c l n ∙ sym (put-put_after event.GiveUp v c l n)
+commutes v c (event.Mal at size) l n f = put_after-put (event.Mal at size) v c l n ∙ sym (put-put_after (event.Mal at size) v c l n)
 commutes v c (event.Reap place) l n f = ap (with_living (with_death (slice_index v.reaper place) v)) (without-with c v.living (slice_index v.reaper place))
 commutes v c (event.Divide ran moved) l n f =
     let e : Event = (event.Divide ran moved) in

@@ -17,9 +17,9 @@ use Rattle.tierra_model.specs.SceneRun.{SceneRun, scene_machine, run_start, read
 use Rattle.tierra_model.specs.Log.{touched}
 use Rattle.tierra_model.specs.Replay.{replay}
 use Rattle.tierra_model.specs.Findings.{finding_of, Finding, Stands, Agrees, CellsAgree, SameIfSome, FindingReplays}
-use Rattle.tierra_model.proofs.Differs.{cells-agree}
+use Rattle.tierra_model.proofs.FirstDifference.{cells-agree}
 use Rattle.tierra_model.proofs.LawOfFindings.{law}
-use Rattle.tierra_model.proofs.Starts.{serial_sound}
+use Rattle.tierra_model.proofs.StartIsSound.{serial_is_sound}
 use Rattle.tierra_model.proofs.Examples.{four, hundred, two, is_setup}
 use Rattle.tierra_model.proofs.Computing.{scenes}
 
@@ -46,7 +46,7 @@ unfolding scenes replay
 record_needed claim =
     let w : World = start two in
     let f : Finding = finding_of (record (scene_of w) { front = record (front w) { ax = pos 5 } }) in
-    let s : IsSound w = (serial_sound two 0 (is_setup two (lit≤ tt) refl) (lit≤ tt)).sound in
+    let s : IsSound w = (serial_is_sound two 0 (is_setup two (lit≤ tt) refl) (lit≤ tt)).sound in
     let stands : Stands f = record { reads = refl; events = refl; after = refl; at_least_one = lit≤ tt; at_most_limit = lit≤ tt } in
     let r = claim f w s stands (refl, refl, cells-agree f.reads.cells w refl, tt, tt) in
     eqb-false 9 26 refl (ap (λ (v : World). slice_index v.soup 0) r.quantum)
@@ -62,7 +62,7 @@ unfolding scenes replay
 cells_needed claim =
     let w : World = start two in
     let f : Finding = finding_of (record (scene_of w) { soup = slice_set w.soup 0 8 }) in
-    let s : IsSound w = (serial_sound two 0 (is_setup two (lit≤ tt) refl) (lit≤ tt)).sound in
+    let s : IsSound w = (serial_is_sound two 0 (is_setup two (lit≤ tt) refl) (lit≤ tt)).sound in
     let stands : Stands f = record { reads = refl; events = refl; after = refl; at_least_one = lit≤ tt; at_most_limit = lit≤ tt } in
     let r = claim f w s stands (refl, refl, refl, tt, tt) in
     eqb-false 9 26 refl (ap (λ (v : World). slice_index v.soup 0) r.quantum)
@@ -82,7 +82,7 @@ unfolding scenes replay
 free_list_needed claim =
     let w : World = start grows in
     let f : Finding = finding_of (record (scene_of w) { free = record { at = 60; size = 40 } ∷ [] }) in
-    let s : IsSound w = (serial_sound grows 0 (is_setup grows (lit≤ tt) refl) (lit≤ tt)).sound in
+    let s : IsSound w = (serial_is_sound grows 0 (is_setup grows (lit≤ tt) refl) (lit≤ tt)).sound in
     let stands : Stands f = record { reads = refl; events = refl; after = refl; at_least_one = lit≤ tt; at_most_limit = lit≤ tt } in
     let r = claim f w s stands (refl, refl, refl, cells-agree f.reads.cells w refl, tt) in
     eqb-false 60 7 refl (ap (λ (v : World). (unwrap_or (one_of v.living 1).daughter no_block).at) r.quantum)
@@ -102,7 +102,7 @@ unfolding scenes replay
 yard_needed claim =
     let w : World = start disturbed in
     let f : Finding = finding_of (record (scene_of w) { yard = take 2 (yard w) }) in
-    let s : IsSound w = (serial_sound disturbed 0 (is_setup disturbed (lit≤ tt) refl) (lit≤ tt)).sound in
+    let s : IsSound w = (serial_is_sound disturbed 0 (is_setup disturbed (lit≤ tt) refl) (lit≤ tt)).sound in
     let stands : Stands f = record { reads = refl; events = refl; after = refl; at_least_one = lit≤ tt; at_most_limit = lit≤ tt } in
     let r = claim f w s stands (refl, refl, refl, cells-agree f.reads.cells w refl, tt) in
     eqb-false 1 2 refl (ap (λ (v : World). v.deaths) r.quantum)
@@ -116,7 +116,7 @@ unfolding scenes replay
 number_needed claim =
     let w : World = start four in
     let f : Finding = finding_of (record (scene_of w) { quanta = 1 }) in
-    let s : IsSound w = (serial_sound four 0 (is_setup four (lit≤ tt) refl) (lit≤ tt)).sound in
+    let s : IsSound w = (serial_is_sound four 0 (is_setup four (lit≤ tt) refl) (lit≤ tt)).sound in
     let stands : Stands f = record { reads = refl; events = refl; after = refl; at_least_one = lit≤ tt; at_most_limit = lit≤ tt } in
     let agrees : Agrees f.reads f.before w = record { front = refl; cells = cells-agree f.reads.cells w refl; free = tt; yard = refl } in
     let r = claim f w s stands (refl, agrees) in
@@ -131,7 +131,7 @@ unfolding scenes replay
 settings_needed claim =
     let w : World = start two in
     let f : Finding = finding_of (record (scene_of w) { settings = record hundred { slice_size = 1; slice = (lit≤ tt, lit≤ tt) } }) in
-    let s : IsSound w = (serial_sound two 0 (is_setup two (lit≤ tt) refl) (lit≤ tt)).sound in
+    let s : IsSound w = (serial_is_sound two 0 (is_setup two (lit≤ tt) refl) (lit≤ tt)).sound in
     let stands : Stands f = record { reads = refl; events = refl; after = refl; at_least_one = lit≤ tt; at_most_limit = lit≤ tt } in
     let agrees : Agrees f.reads f.before w = record { front = refl; cells = cells-agree f.reads.cells w refl; free = tt; yard = tt } in
     let r = claim f w s stands (refl, agrees) in
@@ -145,7 +145,7 @@ StandsTo most = (w : World) → IsSound w → w.quanta ≤ most → Stands (find
 pub not_after_the_last : StandsTo 4000000 → ⊥
 unfolding scene_of
 not_after_the_last claim =
-    let last = serial_sound two 4000000 (is_setup two (lit≤ tt) refl) (lit≤ tt) in
+    let last = serial_is_sound two 4000000 (is_setup two (lit≤ tt) refl) (lit≤ tt) in
     let stands = claim (serial two 4000000) last.sound (omega (arith, last.quanta)) in
     omega (arith, stands.at_most_limit, last.quanta)
 
@@ -165,7 +165,7 @@ notes_yard = record scene_machine { ask_free = λ x. record x { free_noted = tru
 pub yard_not_at_every_mal : ReadsAlike notes_yard → ⊥
 unfolding scenes
 yard_not_at_every_mal law =
-    let s : IsSound (start grows) = (serial_sound grows 0 (is_setup grows (lit≤ tt) refl) (lit≤ tt)).sound in
+    let s : IsSound (start grows) = (serial_is_sound grows 0 (is_setup grows (lit≤ tt) refl) (lit≤ tt)).sound in
     let e : None ≡ Some (yard (start grows)) = ap (λ (r : Reads). r.yard) (law (start grows) s) in
     cc
 
@@ -182,5 +182,5 @@ writes_ahead = record { settings = hundred; creatures = record { at = 0; code = 
 pub written_not_noted : ReadsAlike notes_written → ⊥
 unfolding scenes
 written_not_noted law =
-    let s : IsSound (start writes_ahead) = (serial_sound writes_ahead 0 (is_setup writes_ahead (lit≤ tt) refl) (lit≤ tt)).sound in
+    let s : IsSound (start writes_ahead) = (serial_is_sound writes_ahead 0 (is_setup writes_ahead (lit≤ tt) refl) (lit≤ tt)).sound in
     eqb-false 24 25 refl (ap (λ (r : Reads). length r.cells) (law (start writes_ahead) s))

@@ -30,7 +30,7 @@ use Rattle.tierra_model.specs.Findings.{Agrees}
 use Rattle.tierra_model.specs.Difference.{ListDifference, list_difference, same_block, or_else, of_cells, of_free, of_yard}
 use Rattle.tierra_model.specs.Groups.{GroupFields, payload_size}
 use Rattle.tierra_model.specs.Genebank.{bank, groups_of}
-use Rattle.tierra_model.proofs.Starts.{serial_sound}
+use Rattle.tierra_model.proofs.StartIsSound.{serial_is_sound}
 use Rattle.tierra_model.proofs.Examples.{four, hundred, soon, two, is_setup}
 use Rattle.tierra_model.proofs.SearchRows.{sixteen}
 use Rattle.tierra_model.proofs.Computing.{quanta, searches}
@@ -43,7 +43,7 @@ SoundBelow n = (w : World) → IsSound w → w.quanta < n → StaysSound w
 -- A world after 4,000,000 quanta is sound, and after one more it is not.
 pub not_below_five_million : SoundBelow 5000000 → ⊥
 not_below_five_million claim =
-    let last = serial_sound two 4000000 (is_setup two (lit≤ tt) refl) (lit≤ tt) in
+    let last = serial_is_sound two 4000000 (is_setup two (lit≤ tt) refl) (lit≤ tt) in
     let next = claim (serial two 4000000) last.sound (omega (arith, last.quanta)) in
     omega (arith, next.sound.quanta, next.quanta, last.quanta)
 
@@ -62,7 +62,7 @@ TurnsToAny = (w : World) (q id : ℕ) → IsSound w → w.quanta + 1 ≤ q → q
 pub not_to_anyone : TurnsToAny → ⊥
 unfolding quanta
 not_to_anyone claim =
-    let s = serial_sound two 0 (is_setup two (lit≤ tt) refl) (lit≤ tt) in
+    let s = serial_is_sound two 0 (is_setup two (lit≤ tt) refl) (lit≤ tt) in
     eqb-false 1 3 refl (claim (start two) 1 3 s.sound (lit≤ tt) (lit≤ tt)).front
 
 abbrev TurnsBack : Type 0
@@ -80,7 +80,7 @@ breeds =
 pub not_back : TurnsBack → ⊥
 unfolding quanta
 not_back claim =
-    let s = serial_sound breeds 1 (is_setup breeds (lit≤ tt) refl) (lit≤ tt) in
+    let s = serial_is_sound breeds 1 (is_setup breeds (lit≤ tt) refl) (lit≤ tt) in
     let past : 1 ≤ 0 = (claim (serial breeds 1) 1 1 s.sound (lit≤ tt) (lit≤ tt) (lit≤ tt)).sound.past 1 (record { genotype = 0; quantum = 0; first_effort = None; second_effort = None }) (lit≤ tt) in
     omega arith
 
@@ -95,7 +95,7 @@ CountsOthers = (w : World) → IsSound w
 pub not_others : CountsOthers → ⊥
 unfolding quanta
 not_others claim =
-    let s = serial_sound four 0 (is_setup four (lit≤ tt) refl) (lit≤ tt) in
+    let s = serial_is_sound four 0 (is_setup four (lit≤ tt) refl) (lit≤ tt) in
     eqb-false 2 1 refl (ap (λ (v : World). v.deaths) (claim (start four) s.sound))
 
 -- ---- searches
@@ -219,7 +219,7 @@ late_world =
 late_sound : IsSound late_world
 unfolding quanta
 late_sound =
-    let s = (serial_sound breeds 0 (is_setup breeds (lit≤ tt) refl) (lit≤ tt)).sound in
+    let s = (serial_is_sound breeds 0 (is_setup breeds (lit≤ tt) refl) (lit≤ tt)).sound in
     record {
       cells = s.cells;
       codes = s.codes;

@@ -40,7 +40,7 @@ pub record Follows (w : World) (start : Scene) (x : SceneRun) (l : Log) : Type 0
 
 module _ (w : World) (start : Scene) where
   pub follows-front : (x : SceneRun) (l : Log) → Follows w start x l → front l.now ≡ x.now.front
-  follows-front x l f = ap front f.same ∙ front-put x.now.front f.before f.mirrors.led f.mirrors.number
+  follows-front x l f = ap front f.same ∙ front-put x.now.front f.before f.mirrors.has_front f.mirrors.number
 
   -- ---- an event
 
@@ -50,7 +50,7 @@ module _ (w : World) (start : Scene) where
         began = f.began;
         before = apply_event f.before e;
         mirrors = mirrors-event w f.before x e f.mirrors c k;
-        same = ap (λ (u : World). apply_event u e) f.same ∙ commutes f.before x.now.front e f.mirrors.led f.mirrors.number f.mirrors.fits
+        same = ap (λ (u : World). apply_event u e) f.same ∙ commutes f.before x.now.front e f.mirrors.has_front f.mirrors.number f.mirrors.fits
             ∙ ap (λ (a : Creature). put a (apply_event f.before e)) (sym (front-in_scene x.newborns x.now e));
         notes = (let n = f.notes in record {
           start = n.start;
@@ -87,8 +87,8 @@ module _ (w : World) (start : Scene) where
       record {
         after_events = m.after_events;
         can = m.can;
-        led = m.led;
-        tidy = m.tidy;
+        has_front = m.has_front;
+        each_once = m.each_once;
         number = m.number;
         fits = m.fits;
         old = m.old;
@@ -136,12 +136,12 @@ module _ (w : World) (start : Scene) where
   mirrors-put c v x m f =
       let fits : Shares (front v) c = shares-trans (front v) x.now.front c m.fits f in
       let number : c.id ≡ first_of v.slicer = f.id ∙ m.number in
-      let here : is_here v.living c.id ≡ true = rw number m.led.here in
+      let here : is_here v.living c.id ≡ true = rw number m.has_front.here in
       record {
         after_events = m.after_events;
         can = m.can;
-        led = m.led;
-        tidy = m.tidy;
+        has_front = m.has_front;
+        each_once = m.each_once;
         number = number;
         fits = fits;
         old = rw f.id m.old;
@@ -175,8 +175,8 @@ module _ (w : World) (start : Scene) where
       record {
         after_events = m.after_events;
         can = m.can;
-        led = m.led;
-        tidy = m.tidy;
+        has_front = m.has_front;
+        each_once = m.each_once;
         number = m.number;
         fits = m.fits;
         old = m.old;

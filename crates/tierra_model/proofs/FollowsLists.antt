@@ -25,8 +25,8 @@ use Rattle.tierra_model.specs.Replay.{CanHappen}
 use Rattle.tierra_model.proofs.Owners.{is_owned-owners}
 use Rattle.tierra_model.proofs.Free.{AlikeBelow, room_for_free}
 use Rattle.tierra_model.proofs.Yards.{stands_as, place_of_first_other-renamed, number_of_others-renamed}
-use Rattle.tierra_model.proofs.Tidy.{owners-put}
-use Rattle.tierra_model.proofs.Places.{block_in, place_of_first_other-is}
+use Rattle.tierra_model.proofs.EachOnce.{owners-put}
+use Rattle.tierra_model.proofs.AnyMachine.{block_in, place_of_first_other-is}
 use Rattle.tierra_model.proofs.SceneCells.{with_event}
 use Rattle.tierra_model.proofs.Mirrors.{KnowsYard}
 use Rattle.tierra_model.proofs.Simulation.{IsDone}
@@ -48,7 +48,7 @@ module _ (w : World) (start : Scene) where
       let m = f.mirrors in
       let own : owners_of c p ≡ owners_of (front v) p =
       (λ i. let n : ℕ = one_if (is_in (m.fits.own i) p) + one_if (is_in_daughter (m.fits.daughter i) p) in n) in
-      let sum : owners (with_record c v.living) p ≡ owners v.living p = omega (arith, owners-put c v p m.led m.tidy.once m.number, own) in
+      let sum : owners (with_record c v.living) p ≡ owners v.living p = omega (arith, owners-put c v p m.has_front m.each_once.once m.number, own) in
       ap (λ (u : World). is_owned u.living p) f.same
       ∙ is_owned-owners (with_record c v.living) p ∙ ap (λ (n : ℕ). nat_lt 0 n) sum ∙ sym (is_owned-owners v.living p)
 

@@ -22,8 +22,8 @@ use Rattle.tierra_model.proofs.Owners.{is_here-times, times-is_here, with_record
 use Rattle.tierra_model.proofs.Commutes.{front-id}
 use Rattle.tierra_model.proofs.Free.{runs_of_in}
 use Rattle.tierra_model.proofs.Yards.{renamed, renamed-old, stands_as, map-cong-in}
-use Rattle.tierra_model.proofs.Sound.{sound_led, sound_tidy, old_of}
-use Rattle.tierra_model.proofs.Runs.{cells_below}
+use Rattle.tierra_model.proofs.Sound.{sound-has_front, sound-each_once, sound-id_below}
+use Rattle.tierra_model.proofs.WithinRun.{cells_below}
 use Rattle.tierra_model.proofs.Follows.{Follows}
 
 same_if_both : {A : Type 0} (b : Bool) (x : A) → cond b x x ≡ x
@@ -56,7 +56,7 @@ not_not false = refl
 pub follows-start : (scene : Scene) (w : World) → IsSound w → w.settings ≡ scene.settings → front w ≡ scene.front → length scene.soup ≡ scene.settings.soup_size
     → Follows w scene (run_start scene) (empty_log w)
 follows-start scene w s e a n =
-    let l = sound_led w s in
+    let l = sound-has_front w s in
     let self : put (front w) w ≡ w = ap (λ (x : List Creature). let u : World = record w { living = x } in u)
     (put_self w.living (first_of w.slicer) l.here (s.once (first_of w.slicer))) in
     record {
@@ -67,11 +67,11 @@ follows-start scene w s e a n =
       mirrors = record {
         after_events = refl;
         can = tt;
-        led = l;
-        tidy = sound_tidy w s;
+        has_front = l;
+        each_once = sound-each_once w s;
         number = ap (λ (c : Creature). c.id) (sym a) ∙ front-id w l;
         fits = subst (λ c. Shares (front w) c) a (record { id = refl; own = refl; daughter = refl; errors = refl; genotype = refl; bred = refl });
-        old = subst (λ (c : Creature). c.id < w.next_birth) a (rw (front-id w l) (old_of w (first_of w.slicer) s (times-is_here w.living (first_of w.slicer) l.here)));
+        old = subst (λ (c : Creature). c.id < w.next_birth) a (rw (front-id w l) (sound-id_below w (first_of w.slicer) s (times-is_here w.living (first_of w.slicer) l.here)));
         small = omega (arith, s.next_birth, s.quanta);
         next_birth = omega arith;
         settings = refl;
@@ -82,7 +82,7 @@ follows-start scene w s e a n =
         yard = λ h. h ∙ map-cong-in (λ id. standing (one_of w.living id)) (stands_as w.next_birth w.living) w.reaper (λ id there.
             let n : 0 < times_in (ids_of w.living) id = rw (← s.reaper id) there in
             let i : (one_of w.living id).id ≡ renamed w.next_birth id =
-            one_of-id w.living id (is_here-times w.living id n) ∙ sym (renamed-old w.next_birth id (old_of w id s n)) in
+            one_of-id w.living id (is_here-times w.living id n) ∙ sym (renamed-old w.next_birth id (sound-id_below w id s n)) in
             (λ j. let st : Standing = record (standing (one_of w.living id)) { id = i j } in st));
       };
     }

@@ -66,10 +66,10 @@ code-with_one_more zero (g ∷ gs) (suc j) = refl
 code-with_one_more (suc k) (g ∷ gs) zero = refl
 code-with_one_more (suc k) (g ∷ gs) (suc j) = code-with_one_more k gs j
 
-pub sum_of-one_more_same : (k : ℕ) (gs : List Genotype) → k < length gs → (genotype_at (with_one_more k gs) k).total ≡ (genotype_at gs k).total + 1
-sum_of-one_more_same k [] h = absurd (omega arith)
-sum_of-one_more_same zero (g ∷ gs) h = refl
-sum_of-one_more_same (suc k) (g ∷ gs) h = sum_of-one_more_same k gs (omega arith)
+pub total-one_more_same : (k : ℕ) (gs : List Genotype) → k < length gs → (genotype_at (with_one_more k gs) k).total ≡ (genotype_at gs k).total + 1
+total-one_more_same k [] h = absurd (omega arith)
+total-one_more_same zero (g ∷ gs) h = refl
+total-one_more_same (suc k) (g ∷ gs) h = total-one_more_same k gs (omega arith)
 
 pub total-one_more_other : (k : ℕ) (gs : List Genotype) (j : ℕ) → j ≢ k → (genotype_at (with_one_more k gs) j).total ≡ (genotype_at gs j).total
 total-one_more_other k [] j h = refl
@@ -210,7 +210,7 @@ with_individual-listed t gs code parent q c p l = go (genotype_number code gs) r
             few = omega (arith, length-with_one_more k gs);
             coded = code-with_one_more k gs k ∙ r.1;
             codes = λ j h. code-with_one_more k gs j;
-            same = sum_of-one_more_same k gs r.0;
+            same = total-one_more_same k gs r.0;
             other = λ j n. total-one_more_other k gs j n;
           },
         )

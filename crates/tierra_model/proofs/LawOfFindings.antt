@@ -17,7 +17,7 @@ use Rattle.tierra_model.specs.Log.{log_machine, empty_log}
 use Rattle.tierra_model.specs.Replay.{CanAllHappen, after_events, replay}
 use Rattle.tierra_model.specs.Findings.{Finding, Stands, Agrees, CellsAgree, SameIfSome, FindingReplays, scene_of_finding, seen_soup}
 use Rattle.tierra_model.proofs.Shares.{Shares, shares-fits}
-use Rattle.tierra_model.proofs.Sound.{quantum_sound}
+use Rattle.tierra_model.proofs.Sound.{quantum-sound}
 use Rattle.tierra_model.proofs.LogIsWorld.{run-now}
 use Rattle.tierra_model.proofs.Follows.{Follows}
 use Rattle.tierra_model.proofs.FollowsStart.{follows-start}
@@ -75,7 +75,7 @@ law f w s st e q a =
       quantum = same;
       fit = record {
         each = subst (CanAllHappen w) events g.mirrors.can;
-        sound = subst IsSound (sym same) (quantum_sound w s (omega (arith, q, st.at_most_limit)));
+        sound = subst IsSound (sym same) (quantum-sound w s (omega (arith, q, st.at_most_limit)));
         record_fits = shares-fits (front (after_events w f.events)) f.after
             (subst (λ es. Shares (front (after_events w es)) f.after) events (subst (λ u. Shares (front u) f.after) g.mirrors.after_events (subst (Shares (front g.before)) after g.mirrors.fits)));
       };

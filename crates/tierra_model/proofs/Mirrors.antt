@@ -13,10 +13,10 @@ use Rattle.tierra_model.specs.Yard.{yard, no_standing}
 use Rattle.tierra_model.specs.SceneRun.{SceneRun}
 use Rattle.tierra_model.specs.Replay.{after_events, CanHappen, CanAllHappen}
 use Rattle.tierra_model.proofs.Shares.{Shares}
-use Rattle.tierra_model.proofs.Commutes.{Led, record_after-id}
+use Rattle.tierra_model.proofs.Commutes.{HasFront, record_after-id}
 use Rattle.tierra_model.proofs.Yards.{stands_as}
-use Rattle.tierra_model.proofs.Tidy.{Tidy}
-use Rattle.tierra_model.proofs.Happens.{leads, tidy}
+use Rattle.tierra_model.proofs.EachOnce.{EachOnce}
+use Rattle.tierra_model.proofs.EventsKeep.{front-event, each_once-event}
 use Rattle.tierra_model.proofs.EventEffects.{settings-event, next_birth-event, codes-event, settings-in_scene, front-in_scene, shares-event}
 use Rattle.tierra_model.proofs.SceneCells.{ShowsCells, with_event, cells-event}
 use Rattle.tierra_model.proofs.SceneFree.{FreeAlike, IsShown, free-event}
@@ -35,8 +35,8 @@ can-snoc w (d ∷ es) e h c = (h.0, can-snoc (apply_event w d) es e h.1 c)
 pub record Mirrors (w v : World) (x : SceneRun) : Type 0 where
   pub after_events : v ≡ after_events w x.events
   pub can : CanAllHappen w x.events
-  pub led : Led v
-  pub tidy : Tidy v
+  pub has_front : HasFront v
+  pub each_once : EachOnce v
   pub number : x.now.front.id ≡ first_of v.slicer
   pub fits : Shares (front v) x.now.front
   pub old : x.now.front.id < w.next_birth
@@ -70,14 +70,14 @@ is_shown w v x _ m c k = tt
 
 pub mirrors-event : (w v : World) (x : SceneRun) (e : Event) → Mirrors w v x → CanHappen v e → KnowsYard w x e → Mirrors w (apply_event v e) (with_event x e)
 mirrors-event w v x e m c k =
-    let d = leads v e m.led c in
+    let d = front-event v e m.has_front c in
     let f : (with_event x e).now.front ≡ record_after e x.now.front = front-in_scene x.newborns x.now e in
     let id : (with_event x e).now.front.id ≡ x.now.front.id = ap (λ (a : Creature). a.id) f ∙ record_after-id e x.now.front in
     record {
       after_events = ap (λ (u : World). apply_event u e) m.after_events ∙ sym (after_events-snoc w x.events e);
       can = can-snoc w x.events e m.can (subst (λ u. CanHappen u e) m.after_events c);
-      led = d.led;
-      tidy = tidy v e m.led m.tidy c;
+      has_front = d.has_front;
+      each_once = each_once-event v e m.has_front m.each_once c;
       number = id ∙ m.number ∙ sym d.same;
       fits = subst (λ a. Shares a (with_event x e).now.front) (sym d.front) (subst (λ a. Shares (record_after e (front v)) a) (sym f) (shares-event e (front v) x.now.front m.fits));
       old = rw id m.old;
@@ -87,8 +87,8 @@ mirrors-event w v x e m c k =
       scene_settings = settings-in_scene x.newborns x.now e ∙ m.scene_settings;
       cells = cells-event x e w.soup v m.cells;
       codes = codes-event v e c m.codes;
-      free = λ h. let r = free-event x.newborns x.now v e m.led m.tidy c m.fits (is_shown w v x e m c k) in
+      free = λ h. let r = free-event x.newborns x.now v e m.has_front m.each_once c m.fits (is_shown w v x e m c k) in
           let n = ap (λ (a : Settings). a.soup_size) m.scene_settings in
           subst (λ b. FreeAlike b (with_event x e).now.free (apply_event v e)) n (r (subst (λ b. FreeAlike b x.now.free v) (sym n) (m.free h)));
-      yard = λ h. yard-event w.next_birth x.newborns x.now v e m.led m.tidy c m.fits m.number m.old m.small m.next_birth (m.yard h);
+      yard = λ h. yard-event w.next_birth x.newborns x.now v e m.has_front m.each_once c m.fits m.number m.old m.small m.next_birth (m.yard h);
     }

@@ -15,7 +15,7 @@ use Rattle.tierra_model.specs.Quantum.{Machine, walk, give_up, take_block, victi
 use Rattle.tierra_model.specs.Step.{step, Outcome, flip_bit}
 use Rattle.tierra_model.specs.Room.{room_for}
 
--- every operation leads from a state to one that it is related to
+-- every operation front-event from a state to one that it is related to
 pub record EachOperation {S : Type 0} (P : Machine S) (R : S → S → Type 0) : Type 0 where
   pub none : (x : S) → R x x
   pub next : (x y z : S) → R x y → R y z → R x z
@@ -42,15 +42,15 @@ module _ {S : Type 0} (P : Machine S) (s : Settings) (R : S → S → Type 0) (o
   reaps : (x : S) → R x (reap P s x)
   reaps x = o.next x (P.ask_reaper x) (reap P s x) (o.ask_reaper x) (each-reap x)
 
-  errs : (x : S) → R x (P.apply (P.ask_reaper x) event.Err)
-  errs x = o.next x (P.ask_reaper x) (P.apply (P.ask_reaper x) event.Err) (o.ask_reaper x) (o.apply event.Err (P.ask_reaper x))
+  errors_of : (x : S) → R x (P.apply (P.ask_reaper x) event.Err)
+  errors_of x = o.next x (P.ask_reaper x) (P.apply (P.ask_reaper x) event.Err) (o.ask_reaper x) (o.apply event.Err (P.ask_reaper x))
 
   pub each-make_room : (size n : ℕ) (x : S) → R x (make_room P s size n x)
   each-make_room size zero x = go (room_for s (P.owned x) size)
     where
       go : (at : Option ℕ) → R x (elim at [ Some a ↦ take_block P s size a x | None ↦ P.apply (P.ask_reaper x) event.Err ])
       go (Some a) = two (event.Mal a size) event.Good x
-      go None = errs x
+      go None = errors_of x
   each-make_room size (suc n) x = go (room_for s (P.owned x) size) (o.next x (reap P s x) (make_room P s size n (reap P s x)) (reaps x) (each-make_room size n (reap P s x)))
     where
       go : (at : Option ℕ) → R x (make_room P s size n (reap P s x))

@@ -19,10 +19,10 @@ use Rattle.tierra_model.specs.Scene.{Scene, apply_in_scene}
 use Rattle.tierra_model.specs.Replay.{CanHappen}
 use Rattle.tierra_model.proofs.Shares.{Shares}
 use Rattle.tierra_model.proofs.Owners.{is_owned-owners}
-use Rattle.tierra_model.proofs.Commutes.{Led, mark}
+use Rattle.tierra_model.proofs.Commutes.{HasFront, put_after}
 use Rattle.tierra_model.proofs.Free.{AlikeBelow, runs_of_in}
-use Rattle.tierra_model.proofs.Tidy.{Tidy, owners-mark, owners-divide, owners-reap}
-use Rattle.tierra_model.proofs.Happens.{owners-mal, victim_here}
+use Rattle.tierra_model.proofs.EachOnce.{EachOnce, owners-put_after, owners-divide, owners-reap}
+use Rattle.tierra_model.proofs.EventsKeep.{owners-mal, reaped-is_here}
 use Rattle.tierra_model.proofs.EventEffects.{with_newborn-keeps}
 
 -- cells that come free
@@ -67,20 +67,20 @@ IsShown s v event.GiveUp = Unit {0}
 IsShown s v (event.Mal at size) = Unit {0}
 IsShown s v (event.Divide ran moved) = Unit {0}
 
-pub free-event : (k : ℕ) (s : Scene) (v : World) (e : Event) → Led v → Tidy v → CanHappen v e → Shares (front v) s.front → IsShown s v e
+pub free-event : (k : ℕ) (s : Scene) (v : World) (e : Event) → HasFront v → EachOnce v → CanHappen v e → Shares (front v) s.front → IsShown s v e
     → FreeAlike s.settings.soup_size s.free v → FreeAlike s.settings.soup_size (apply_in_scene k s e).free (apply_event v e)
 unfolding apply_event apply_in_scene
 free-event k s v (event.Write at value) l t c f r a = a
 free-event k s v event.Err l t c f r a =
-    same-owners s.settings.soup_size s.free v (mark event.Err v) (λ p. omega (arith, owners-mark event.Err v p l t)) a
+    same-owners s.settings.soup_size s.free v (put_after event.Err v) (λ p. omega (arith, owners-put_after event.Err v p l t)) a
 free-event k s v event.Good l t c f r a = a
 free-event k s v event.GiveUp l t c f r a = λ q h.
     let d : one_if (is_in_daughter s.front.daughter q) ≡ one_if (is_in_daughter (front v).daughter q)
     = ap (λ (b : Option Block). one_if (is_in_daughter b q)) f.daughter in
     ap not (runs_of_in s.settings.soup_size (λ p. is_in_some s.free p || is_in_daughter s.front.daughter p) q h)
-    ∙ give_one (is_in_some s.free q) (is_in_daughter s.front.daughter q) (owners v.living q) (owners (mark event.GiveUp v).living q)
-    (a q h ∙ is_owned-owners v.living q) (t.apart q) (omega (arith, owners-mark event.GiveUp v q l t, d))
-    ∙ sym (is_owned-owners (mark event.GiveUp v).living q)
+    ∙ give_one (is_in_some s.free q) (is_in_daughter s.front.daughter q) (owners v.living q) (owners (put_after event.GiveUp v).living q)
+    (a q h ∙ is_owned-owners v.living q) (t.apart q) (omega (arith, owners-put_after event.GiveUp v q l t, d))
+    ∙ sym (is_owned-owners (put_after event.GiveUp v).living q)
 free-event k s v (event.Mal at size) l t c f r a = λ q h.
     ap not (runs_of_in s.settings.soup_size (λ p. is_in_some s.free p && not (is_in (record { at = at; size = size }) p)) q h)
     ∙ take_bool (is_in_some s.free q) (is_in (record { at = at; size = size }) q) (owners v.living q) (owners (apply_event v (event.Mal at size)).living q)
@@ -94,7 +94,7 @@ free-event k s v (event.Reap place) l t c f r a = λ q h.
     = ap (λ (b : Option Block). one_if (is_in_daughter b q)) r.1 in
     ap not (runs_of_in s.settings.soup_size (λ p. is_in_some s.free p || (is_in x.own p || is_in_daughter x.daughter p)) q h)
     ∙ give_bool (is_in_some s.free q) (is_in x.own q) (is_in_daughter x.daughter q) (owners v.living q) (owners (with_death id v).living q)
-    (a q h ∙ is_owned-owners v.living q) (t.apart q) (omega (arith, owners-reap v id q t (victim_here v place t c.0), own, d))
+    (a q h ∙ is_owned-owners v.living q) (t.apart q) (omega (arith, owners-reap v id q t (reaped-is_here v place t c.0), own, d))
     ∙ sym (is_owned-owners (with_death id v).living q)
 free-event k s v (event.Divide ran moved) l t c f r a =
     subst (λ (fr : List Block). FreeAlike s.settings.soup_size fr (apply_event v (event.Divide ran moved))) (sym (with_newborn-keeps (k + 1) s.front.daughter s).2)

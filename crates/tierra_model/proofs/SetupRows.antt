@@ -3,11 +3,11 @@ use Rattle.std.proofs.Common.{lit≤, refl}
 use Rattle.tierra_model.specs.Sound.{IsSound}
 use Rattle.tierra_model.specs.Setups.{IsSetup}
 use Rattle.tierra_model.specs.Serial.{serial}
-use Rattle.tierra_model.proofs.Starts.{serial_sound}
+use Rattle.tierra_model.proofs.StartIsSound.{serial_is_sound}
 use Rattle.tierra_model.proofs.Examples.{two, is_setup}
 
 pub two-is : IsSetup two
 two-is = is_setup two (lit≤ tt) refl
 
 pub two-sound : IsSound (serial two 4000000)
-two-sound = (serial_sound two 4000000 two-is (lit≤ tt)).sound
+two-sound = (serial_is_sound two 4000000 two-is (lit≤ tt)).sound

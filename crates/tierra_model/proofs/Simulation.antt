@@ -18,7 +18,7 @@ use Rattle.tierra_model.specs.Events.{record_after}
 use Rattle.tierra_model.proofs.Shares.{Shares}
 use Rattle.tierra_model.proofs.Free.{AlikeBelow, room_for-alike}
 use Rattle.tierra_model.proofs.Records.{flipped_below, Keeps, CanDo, Always, step_keeps}
-use Rattle.tierra_model.proofs.Places.{room-some, room-none_zero, room-none_suc, FlipOf, back_flip_of}
+use Rattle.tierra_model.proofs.AnyMachine.{room-some, room-none_zero, room-none_suc, FlipOf, back_flip_of}
 use Rattle.tierra_model.proofs.Operations.{EachOperation, each-reap, each-make_room, each-mal, each-perform, each-walk, each-instructions, each-reap_times, each-disturb}
 
 -- an operation makes nothing true that was not

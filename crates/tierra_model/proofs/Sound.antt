@@ -15,13 +15,13 @@ use Rattle.tierra_model.specs.Sound.{IsSound, numbers_of, saved_size, count_limi
 use Rattle.tierra_model.specs.Events.{turn_end}
 use Rattle.tierra_model.proofs.Living.{is_here}
 use Rattle.tierra_model.proofs.Owners.{is_here-times, times_in-append}
-use Rattle.tierra_model.proofs.Commutes.{Led}
+use Rattle.tierra_model.proofs.Commutes.{HasFront}
 use Rattle.tierra_model.proofs.Yards.{times_in-index}
-use Rattle.tierra_model.proofs.Tidy.{Tidy}
-use Rattle.tierra_model.proofs.Core.{Each, Fine}
+use Rattle.tierra_model.proofs.EachOnce.{EachOnce}
+use Rattle.tierra_model.proofs.Population.{Each, InBounds}
 use Rattle.tierra_model.proofs.Genotypes.{genotype_at-past}
-use Rattle.tierra_model.proofs.During.{IsListed, During}
-use Rattle.tierra_model.proofs.Runs.{runs}
+use Rattle.tierra_model.proofs.WithinQuantum.{GenotypeBelow, WithinQuantum}
+use Rattle.tierra_model.proofs.WithinRun.{within-run}
 
 -- ---- what a sound world has
 
@@ -37,8 +37,8 @@ some_line (c ∷ cs) [] h e =
     absurd (omega arith)
 some_line (c ∷ cs) (x ∷ xs) h e = omega arith
 
-pub sound_led : (w : World) → IsSound w → Led w
-sound_led w s =
+pub sound-has_front : (w : World) → IsSound w → HasFront w
+sound-has_front w s =
     let line = some_line w.living w.slicer s.some s.slicer in
     record { line = line; here = is_here-times w.living (first_of w.slicer) (rw (← s.slicer (first_of w.slicer)) (first_in w.slicer line)) }
 
@@ -53,10 +53,10 @@ not_born n id (inr e) h k = absurd (omega arith)
 unborn : (n : ℕ) (living : List Creature) → All (IsBorn n) living → (id : ℕ) → (id ≡ 0) ⊎ (n ≤ id) → times_in (ids_of living) id ≡ 0
 unborn n [] h id k = refl
 unborn n (c ∷ cs) h id k =
-    let with_birth : IsBorn n c = All-head (IsBorn n) c cs h in
+    let born : IsBorn n c = All-head (IsBorn n) c cs h in
     let rest = unborn n cs (All-tail (IsBorn n) c cs h) id k in
     elim (eqb_tells c.id id) [
-      | inl e ↦ absurd (not_born n id k (subst (λ j. 1 ≤ j) e.1 with_birth.0) (subst (λ j. j < n) e.1 with_birth.1))
+      | inl e ↦ absurd (not_born n id k (subst (λ j. 1 ≤ j) e.1 born.0) (subst (λ j. j < n) e.1 born.1))
       | inr e ↦ (let none : one_if (c.id == id) ≡ 0 = ap one_if e.0 in omega arith)
     ]
 
@@ -77,11 +77,11 @@ all_born n (c ∷ cs) z f =
         let here : 0 < times_in (ids_of (c ∷ cs)) c.id = grind (arith, nat_tests) in
         absurd (omega arith)
 
-pub sound_tidy : (w : World) → IsSound w → Tidy w
-sound_tidy w s = record { once = s.once; reaper = s.reaper; fresh = λ id h. unborn w.next_birth w.living s.numbers id (inr h); apart = s.apart }
+pub sound-each_once : (w : World) → IsSound w → EachOnce w
+sound-each_once w s = record { once = s.once; reaper = s.reaper; fresh = λ id h. unborn w.next_birth w.living s.numbers id (inr h); apart = s.apart }
 
-pub old_of : (w : World) (id : ℕ) → IsSound w → 0 < times_in (ids_of w.living) id → id < w.next_birth
-old_of w id s h = go (nat_lt id w.next_birth) refl
+pub sound-id_below : (w : World) (id : ℕ) → IsSound w → 0 < times_in (ids_of w.living) id → id < w.next_birth
+sound-id_below w id s h = go (nat_lt id w.next_birth) refl
   where
     go : (b : Bool) → nat_lt id w.next_birth ≡ b → id < w.next_birth
     go true e = grind (arith, nat_tests)
@@ -126,8 +126,8 @@ each_among n (s ∷ rest) h =
     All-cons (Among n) s rest (h s.genotype (times_self s.genotype (numbers_of rest)))
     (each_among n rest (λ k m. h k (omega (arith, m))))
 
-pub known_of : (w : World) → IsSound w → All (Among (length w.genotypes)) w.saved
-known_of w s = each_among (length w.genotypes) w.saved (λ k m. go k m (nat_lt k (length w.genotypes)) refl)
+pub sound-saved_below : (w : World) → IsSound w → All (Among (length w.genotypes)) w.saved
+sound-saved_below w s = each_among (length w.genotypes) w.saved (λ k m. go k m (nat_lt k (length w.genotypes)) refl)
   where
     go : (k : ℕ) → 0 < times_in (numbers_of w.saved) k → (b : Bool) → nat_lt k (length w.genotypes) ≡ b → k < length w.genotypes
     go k m true e = grind (arith, nat_tests)
@@ -139,17 +139,17 @@ known_of w s = each_among (length w.genotypes) w.saved (λ k m. go k m (nat_lt k
         let low : one_if (nat_le w.settings.save_at (genotype_at w.genotypes k).total) ≡ 0 = grind (arith, nat_tests) in
         absurd (omega arith)
 
-pub begins_during : (w : World) → IsSound w → During w.settings (count_limit w.quanta) (count_limit w.quanta) (count_limit w.quanta) 0 (w.quanta + 1) w
-begins_during w s =
+pub within-start : (w : World) → IsSound w → WithinQuantum w.settings (count_limit w.quanta) (count_limit w.quanta) (count_limit w.quanta) 0 (w.quanta + 1) w
+within-start w s =
     let n : ℕ = w.settings.soup_size in
     let l : ℕ = count_limit w.quanta in
     record {
-      core = record {
-        led = sound_led w s;
-        tidy = sound_tidy w s;
+      population = record {
+        has_front = sound-has_front w s;
+        each_once = sound-each_once w s;
         size = refl;
         cells = s.cells;
-        each = each_from_all (Fine n l l) w.living (λ k d h. record {
+        each = each_from_all (InBounds n l l) w.living (λ k d h. record {
           own = (s.placed k d h).own;
           daughter = (s.placed k d h).daughter;
           ip = (s.processor k d h).0;
@@ -169,12 +169,12 @@ begins_during w s =
       settings = refl;
       number = refl;
       codes = s.codes;
-      genotype = each_from_all (IsListed (length w.genotypes)) w.living s.genotype;
+      genotype = each_from_all (GenotypeBelow (length w.genotypes)) w.living s.genotype;
       genotype_count = s.genotype_count;
       listed = record { once = s.coded_once; written = s.written; parents = s.parents; totals = s.totals; efforts = s.efforts };
       saves = record {
         once = s.saved;
-        known = known_of w s;
+        known = sound-saved_below w s;
         rising = s.rising;
         past = All-weaker (By w.quanta) (By (w.quanta + 1)) (λ x h. omega arith) w.saved s.past;
         efforts = s.saved_efforts;
@@ -200,25 +200,25 @@ sizes_below gs saved q z p h k l = elim (eqb_tells p q) [
   | inr e ↦ h p e.1
 ]
 
-ended_in : (e m b z q : ℕ) (w : World) → During w.settings e m b z q w → e ≤ count_limit q → m ≤ count_limit q → b ≤ count_limit q → z < 2 ^ 30 → q ≤ 4000000 → IsSound (turn_end w)
-ended_in e m b z q w d he hm hb hz hq =
-    let c = d.core in
+sound-turn_end_in : (e m b z q : ℕ) (w : World) → WithinQuantum w.settings e m b z q w → e ≤ count_limit q → m ≤ count_limit q → b ≤ count_limit q → z < 2 ^ 30 → q ≤ 4000000 → IsSound (turn_end w)
+sound-turn_end_in e m b z q w d he hm hb hz hq =
+    let c = d.population in
     let n : ℕ = w.settings.soup_size in
     let same : count_limit q ≡ count_limit (w.quanta + 1) = ap count_limit (sym d.number) in
-    let fine : All (Fine n e m) w.living = all_from_each (Fine n e m) w.living c.each in
+    let fine : All (InBounds n e m) w.living = all_from_each (InBounds n e m) w.living c.each in
     record {
       cells = c.cells;
       codes = d.codes;
-      some = some_here w.living (first_of w.slicer) c.led.here;
+      some = some_here w.living (first_of w.slicer) c.has_front.here;
       ordered = c.order;
-      once = c.tidy.once;
+      once = c.each_once.once;
       slicer = λ id. rotation-times w.slicer id ∙ c.slicer id;
-      reaper = c.tidy.reaper;
+      reaper = c.each_once.reaper;
       placed = λ k x h. (let f = fine k x h in record { own = f.own; daughter = f.daughter });
-      apart = c.tidy.apart;
+      apart = c.each_once.apart;
       processor = λ k x h. (let f = fine k x h in (f.ip, f.sp));
-      genotype = all_from_each (IsListed (length w.genotypes)) w.living d.genotype;
-      numbers = all_born w.next_birth w.living c.zero c.tidy.fresh;
+      genotype = all_from_each (GenotypeBelow (length w.genotypes)) w.living d.genotype;
+      numbers = all_born w.next_birth w.living c.zero c.each_once.fresh;
       births = c.births;
       genotype_count = d.genotype_count;
       living_and_dead = c.count;
@@ -237,8 +237,8 @@ ended_in e m b z q w d he hm hb hz hq =
       sizes = λ p. sizes_below w.genotypes w.saved q z p d.saves.sizes d.saves.size hz;
     }
 
-pub ended_sound : (s : Settings) (e m b z q : ℕ) (w : World) → During s e m b z q w → e ≤ count_limit q → m ≤ count_limit q → b ≤ count_limit q → z < 2 ^ 30 → q ≤ 4000000 → IsSound (turn_end w)
-ended_sound s e m b z q w d he hm hb hz hq = ended_in e m b z q w (subst (λ t. During t e m b z q w) (sym d.settings) d) he hm hb hz hq
+pub sound-turn_end : (s : Settings) (e m b z q : ℕ) (w : World) → WithinQuantum s e m b z q w → e ≤ count_limit q → m ≤ count_limit q → b ≤ count_limit q → z < 2 ^ 30 → q ≤ 4000000 → IsSound (turn_end w)
+sound-turn_end s e m b z q w d he hm hb hz hq = sound-turn_end_in e m b z q w (subst (λ t. WithinQuantum t e m b z q w) (sym d.settings) d) he hm hb hz hq
 
 -- ---- a quantum
 
@@ -250,29 +250,29 @@ slice_few size s = go s.slice_by_size
     go false = omega (arith, s.slice)
 
 -- the bounds at the end of a quantum
-quantum_during : (w : World) (k : ℕ) → IsSound w
-    → During w.settings (count_limit w.quanta + k) (count_limit w.quanta + k) (count_limit w.quanta + k) (0 + 20100 * k) (w.quanta + 1) (run world_machine w.settings (w.quanta + 1) k w)
-quantum_during w k s =
+within-quantum : (w : World) (k : ℕ) → IsSound w
+    → WithinQuantum w.settings (count_limit w.quanta + k) (count_limit w.quanta + k) (count_limit w.quanta + k) (0 + 20100 * k) (w.quanta + 1) (run world_machine w.settings (w.quanta + 1) k w)
+within-quantum w k s =
     let l : ℕ = count_limit w.quanta in
-    runs w.settings l l l 0 (w.quanta + 1) k w (begins_during w s)
+    within-run w.settings l l l 0 (w.quanta + 1) k w (within-start w s)
 
 pub quantum-quanta : (w : World) → IsSound w → (quantum w).quanta ≡ w.quanta + 1
 unfolding quantum
-quantum-quanta w s = (quantum_during w (slice_of (front w).own.size w.settings) s).number
+quantum-quanta w s = (within-quantum w (slice_of (front w).own.size w.settings) s).number
 
 pub quantum-settings : (w : World) → IsSound w → (quantum w).settings ≡ w.settings
 unfolding quantum
-quantum-settings w s = (quantum_during w (slice_of (front w).own.size w.settings) s).settings
+quantum-settings w s = (within-quantum w (slice_of (front w).own.size w.settings) s).settings
 
-pub quantum_sound : (w : World) → IsSound w → w.quanta < 4000000 → IsSound (quantum w)
+pub quantum-sound : (w : World) → IsSound w → w.quanta < 4000000 → IsSound (quantum w)
 unfolding quantum
-quantum_sound w s h =
+quantum-sound w s h =
     let k : ℕ = slice_of (front w).own.size w.settings in
     let l : ℕ = count_limit w.quanta in
     let q : ℕ = w.quanta + 1 in
     let few : k ≤ 10000 = slice_few (front w).own.size w.settings in
-    ended_sound w.settings (l + k) (l + k) (l + k) (0 + 20100 * k) q (run world_machine w.settings q k w)
-    (quantum_during w k s) (omega arith) (omega arith) (omega arith) (omega arith) (omega arith)
+    sound-turn_end w.settings (l + k) (l + k) (l + k) (0 + 20100 * k) q (run world_machine w.settings q k w)
+    (within-quantum w k s) (omega arith) (omega arith) (omega arith) (omega arith) (omega arith)
 
-pub quantum_goes_on : QuantumIsSound
-quantum_goes_on w s h = record { sound = quantum_sound w s h; settings = quantum-settings w s; quanta = quantum-quanta w s }
+pub quantum_is_sound : QuantumIsSound
+quantum_is_sound w s h = record { sound = quantum-sound w s h; settings = quantum-settings w s; quanta = quantum-quanta w s }

@@ -1,5 +1,5 @@
-use Rattle.tierra_model.proofs.Differs.{the_difference}
+use Rattle.tierra_model.proofs.FirstDifference.{difference_tells}
 use Rattle.tierra_model.proofs.laws.difference_tells.Goals as goal
 
 pub returns : goal.returns
-returns c = the_difference
+returns c = difference_tells

@@ -1,5 +1,5 @@
-use Rattle.tierra_model.proofs.Disturbance.{disturbance_counts}
+use Rattle.tierra_model.proofs.DisturbanceCounts.{disturbance_counts_living}
 use Rattle.tierra_model.proofs.laws.disturbance_counts_living.Goals as goal
 
 pub returns : goal.returns
-returns c = disturbance_counts
+returns c = disturbance_counts_living

@@ -1,5 +1,5 @@
-use Rattle.tierra_model.proofs.Differs.{the_least_place}
+use Rattle.tierra_model.proofs.FirstDifference.{least_place}
 use Rattle.tierra_model.proofs.laws.least_place.Goals as goal
 
 pub returns : goal.returns
-returns c = the_least_place
+returns c = least_place

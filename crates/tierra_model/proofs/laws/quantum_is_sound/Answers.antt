@@ -1,5 +1,5 @@
-use Rattle.tierra_model.proofs.Sound.{quantum_goes_on}
+use Rattle.tierra_model.proofs.Sound.{quantum_is_sound}
 use Rattle.tierra_model.proofs.laws.quantum_is_sound.Goals as goal
 
 pub returns : goal.returns
-returns c = quantum_goes_on
+returns c = quantum_is_sound

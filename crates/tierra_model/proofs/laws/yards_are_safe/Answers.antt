@@ -1,4 +1,4 @@
-use Rattle.tierra_model.proofs.StandIns.{yards_are_safe}
+use Rattle.tierra_model.proofs.YardsAreSafe.{yards_are_safe}
 use Rattle.tierra_model.proofs.laws.yards_are_safe.Goals as goal
 
 pub returns : goal.returns

@@ -41,7 +41,7 @@ unfolding apply_event
 flip-reaper w None = refl
 flip-reaper w (Some c) = refl
 
-pub disturbance_counts : DisturbanceCountsLiving
-disturbance_counts w bit s =
+pub disturbance_counts_living : DisturbanceCountsLiving
+disturbance_counts_living w bit s =
     ap (λ (n : ℕ). reap_times world_machine w.settings (n * w.settings.dist_percent / 100) (flip world_machine w.settings bit w))
     (ap length (flip-reaper w bit) ∙ length-reaper w s)

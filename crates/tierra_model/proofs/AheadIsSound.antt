@@ -22,8 +22,8 @@ first-turned id seen (x ∷ xs) h = elim (eqb_tells x id) [
   | inr e ↦ rw (e.0) (first-turned id (seen ++ x ∷ []) xs (let none : one_if (x == id) ≡ 0 = ap one_if e.0 in omega arith))
 ]
 
-pub ahead_sound : AheadIsSound
-ahead_sound w q id s after most here =
+pub ahead_is_sound : AheadIsSound
+ahead_is_sound w q id s after most here =
     record {
       sound = record {
         cells = s.cells;

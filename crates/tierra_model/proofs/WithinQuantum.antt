@@ -19,9 +19,9 @@ use Rattle.tierra_model.specs.Individuals.{savings_after, with_individual, genot
 use Rattle.tierra_model.specs.Events.{apply_event, record_after, with_birth}
 use Rattle.tierra_model.specs.Replay.{CanHappen}
 use Rattle.tierra_model.proofs.Shares.{Shares}
-use Rattle.tierra_model.proofs.Commutes.{Led, front-id, led-put}
-use Rattle.tierra_model.proofs.Core.{Each, Core, core, core-put, weaken, front_fine, each-map, each-append, each-with, each-without, each-one, errs, bears}
-use Rattle.tierra_model.proofs.Tidy.{Tidy, owners-put}
+use Rattle.tierra_model.proofs.Commutes.{HasFront, front-id, has_front-put}
+use Rattle.tierra_model.proofs.Population.{Each, Population, population-event, population-put, population-weaker, front-in_bounds, each-map, each-append, each-with, each-without, each-one, errors_of, births_of}
+use Rattle.tierra_model.proofs.EachOnce.{EachOnce, owners-put}
 use Rattle.tierra_model.proofs.Owners.{ids_of-with}
 use Rattle.tierra_model.proofs.Genotypes.{Listed, Counts, with_individual-listed, totals-weaker}
 use Rattle.tierra_model.proofs.Savings.{Saves, saves-with_individual}
@@ -43,16 +43,16 @@ code_of_block n soup b k e a =
 
 -- ---- what holds while a quantum runs
 
-abbrev pub IsListed : ℕ → Creature → Type 0
-IsListed n c = c.genotype < n
+abbrev pub GenotypeBelow : ℕ → Creature → Type 0
+GenotypeBelow n c = c.genotype < n
 
 -- Errors are at most e, copies at most m, birth numbers and totals at most b, and what quantum q saved comes to z at the most.
-pub record During (s : Settings) (e m b z q : ℕ) (w : World) : Type 0 where
-  pub core : Core s.soup_size e m b w
+pub record WithinQuantum (s : Settings) (e m b z q : ℕ) (w : World) : Type 0 where
+  pub population : Population s.soup_size e m b w
   pub settings : w.settings ≡ s
   pub number : w.quanta + 1 ≡ q
   pub codes : All IsCell w.soup
-  pub genotype : Each (IsListed (length w.genotypes)) w.living
+  pub genotype : Each (GenotypeBelow (length w.genotypes)) w.living
   pub genotype_count : length w.genotypes < w.next_birth
   pub listed : Listed b w.genotypes
   pub saves : Saves q z s.save_at w.genotypes w.saved
@@ -64,54 +64,54 @@ pub saves-weaker : (q z y a : ℕ) (gs : List Genotype) (saved : List _) → z �
 saves-weaker q z y a gs saved h s =
     record { once = s.once; known = s.known; rising = s.rising; past = s.past; efforts = s.efforts; sizes = s.sizes; size = omega (arith, s.size) }
 
-front_listed : (s : Settings) (e m b z q : ℕ) (w : World) → During s e m b z q w → (front w).genotype < length w.genotypes
-front_listed s e m b z q w d = each-one (IsListed (length w.genotypes)) w.living (first_of w.slicer) d.core.led.here d.genotype
+front-genotype_below : (s : Settings) (e m b z q : ℕ) (w : World) → WithinQuantum s e m b z q w → (front w).genotype < length w.genotypes
+front-genotype_below s e m b z q w d = each-one (GenotypeBelow (length w.genotypes)) w.living (first_of w.slicer) d.population.has_front.here d.genotype
 
 -- ---- one event
 
 -- what an event may add
 pub record Adds (v : Event) (e b z e' b' z' : ℕ) : Type 0 where
-  pub errors : e + errs v ≤ e'
-  pub next_birth : b + bears v ≤ b'
-  pub size : z + 20100 * bears v ≤ z'
+  pub errors : e + errors_of v ≤ e'
+  pub next_birth : b + births_of v ≤ b'
+  pub size : z + 20100 * births_of v ≤ z'
 
-core_of : (v : Event) (s : Settings) (e m b z q e' b' z' : ℕ) (w : World) → During s e m b z q w → CanHappen w v → Adds v e b z e' b' z'
-    → Core s.soup_size e' m b' (apply_event w v)
-core_of v s e m b z q e' b' z' w d c a =
-    weaken s.soup_size (e + errs v) m (b + bears v) e' b' (apply_event w v) a.errors a.next_birth (core v s.soup_size e m b w d.core c)
+within-population : (v : Event) (s : Settings) (e m b z q e' b' z' : ℕ) (w : World) → WithinQuantum s e m b z q w → CanHappen w v → Adds v e b z e' b' z'
+    → Population s.soup_size e' m b' (apply_event w v)
+within-population v s e m b z q e' b' z' w d c a =
+    population-weaker s.soup_size (e + errors_of v) m (b + births_of v) e' b' (apply_event w v) a.errors a.next_birth (population-event v s.soup_size e m b w d.population c)
 
 -- the daughter block becomes a creature
-born_during : (s : Settings) (e m b z q e' b' z' ran moved : ℕ) (w : World) (o : Option Block) → During s e m b z q w → IfSome o (IsBlock s.soup_size) → IsSome o
+within-divide : (s : Settings) (e m b z q e' b' z' ran moved : ℕ) (w : World) (o : Option Block) → WithinQuantum s e m b z q w → IfSome o (IsBlock s.soup_size) → IsSome o
     → 1 ≤ ran → b + 1 ≤ b' → z + 20100 ≤ z'
-    → Core s.soup_size e' m b' (put (record_after (event.Divide ran moved) (front w)) (with_birth (genotypes_at_birth (front w) ran moved w.genotypes) o (front w).genotype w))
-    → During s e' m b' z' q (put (record_after (event.Divide ran moved) (front w)) (with_birth (genotypes_at_birth (front w) ran moved w.genotypes) o (front w).genotype w))
-born_during s e m b z q e' b' z' ran moved w None d k h r1 b1 z1 c = (let f : false ≡ true = h in cc)
-born_during s e m b z q e' b' z' ran moved w (Some x) d k h r1 b1 z1 c =
+    → Population s.soup_size e' m b' (put (record_after (event.Divide ran moved) (front w)) (with_birth (genotypes_at_birth (front w) ran moved w.genotypes) o (front w).genotype w))
+    → WithinQuantum s e' m b' z' q (put (record_after (event.Divide ran moved) (front w)) (with_birth (genotypes_at_birth (front w) ran moved w.genotypes) o (front w).genotype w))
+within-divide s e m b z q e' b' z' ran moved w None d k h r1 b1 z1 c = (let f : false ≡ true = h in cc)
+within-divide s e m b z q e' b' z' ran moved w (Some x) d k h r1 b1 z1 c =
     let mother : Creature = front w in
     let effort : Effort = record { ran = ran; moved = moved } in
     let code : List ℕ = slice_range w.soup x.at (x.at + x.size) in
-    let is = code_of_block s.soup_size w.soup x k d.core.cells d.codes in
+    let is = code_of_block s.soup_size w.soup x k d.population.cells d.codes in
     let known : List Genotype = genotypes_at_birth mother ran moved w.genotypes in
     let long : length known ≡ length w.genotypes = length-with_effort_of mother.genotype (mother.bred + 1) effort w.genotypes in
     let listed = with_effort_of-listed b mother.genotype (mother.bred + 1) effort w.genotypes r1 d.listed in
     let gs : List Genotype = (with_individual known code (Some mother.genotype) (w.quanta + 1)).0 in
     let j : ℕ = (with_individual known code (Some mother.genotype) (w.quanta + 1)).1 in
-    let mine = front_listed s e m b z q w d in
+    let mine = front-genotype_below s e m b z q w d in
     let r : Listed (b + 1) gs × Counts code known gs j = with_individual-listed b known code (Some mother.genotype) (w.quanta + 1) is.0 (rw long mine) listed in
-    let longer : (y : Creature) → IsListed (length w.genotypes) y → IsListed (length gs) y = λ y p. omega (arith, r.1.longer, long) in
-    let mark : Creature = record_after (event.Divide ran moved) mother in
+    let longer : (y : Creature) → GenotypeBelow (length w.genotypes) y → GenotypeBelow (length gs) y = λ y p. omega (arith, r.1.longer, long) in
+    let put_after : Creature = record_after (event.Divide ran moved) mother in
     let nb : Creature = newborn w.next_birth x j in
     let size = is.1 in
     let few = k.1 in
     let saves = saves-with_individual q z s.save_at known gs code j w.saved r.1 r.0.efforts
     (with_effort_of-saves q z s.save_at mother.genotype (mother.bred + 1) effort w.genotypes w.saved d.saves) in
     record {
-      core = c;
+      population = c;
       settings = d.settings;
       number = d.number;
       codes = d.codes;
-      genotype = each-with (IsListed (length gs)) mark (w.living ++ nb ∷ []) (longer (front w) mine)
-          (each-append (IsListed (length gs)) w.living (nb ∷ []) (each-map (IsListed (length w.genotypes)) (IsListed (length gs)) longer w.living d.genotype) (r.1.among, tt));
+      genotype = each-with (GenotypeBelow (length gs)) put_after (w.living ++ nb ∷ []) (longer (front w) mine)
+          (each-append (GenotypeBelow (length gs)) w.living (nb ∷ []) (each-map (GenotypeBelow (length w.genotypes)) (GenotypeBelow (length gs)) longer w.living d.genotype) (r.1.among, tt));
       genotype_count = omega (arith, r.1.few, d.genotype_count, long);
       listed = listed-weaker (b + 1) b' gs b1 r.0;
       saves = subst (λ (t : Settings). Saves q z' s.save_at gs (savings_after t.save_at gs j (w.quanta + 1) w.saved)) (sym d.settings)
@@ -119,12 +119,12 @@ born_during s e m b z q e' b' z' ran moved w (Some x) d k h r1 b1 z1 c =
           (saves-weaker q (z + (length code + 100)) z' s.save_at gs (savings_after s.save_at gs j q w.saved) (omega arith) saves));
     }
 
-pub during : (v : Event) (s : Settings) (e m b z q e' b' z' : ℕ) (w : World) → During s e m b z q w → CanHappen w v → Adds v e b z e' b' z'
-    → During s e' m b' z' q (apply_event w v)
+pub within-event : (v : Event) (s : Settings) (e m b z q e' b' z' : ℕ) (w : World) → WithinQuantum s e m b z q w → CanHappen w v → Adds v e b z e' b' z'
+    → WithinQuantum s e' m b' z' q (apply_event w v)
 unfolding apply_event
-during (event.Write at value) s e m b z q e' b' z' w d c a =
+within-event (event.Write at value) s e m b z q e' b' z' w d c a =
     record {
-      core = core_of (event.Write at value) s e m b z q e' b' z' w d c a;
+      population = within-population (event.Write at value) s e m b z q e' b' z' w d c a;
       settings = d.settings;
       number = d.number;
       codes = All-set IsCell w.soup at value c.1 d.codes;
@@ -133,20 +133,20 @@ during (event.Write at value) s e m b z q e' b' z' w d c a =
       listed = listed-weaker b b' w.genotypes (omega (arith, a.next_birth)) d.listed;
       saves = saves-weaker q z z' s.save_at w.genotypes w.saved (omega (arith, a.size)) d.saves;
     }
-during event.Err s e m b z q e' b' z' w d c a =
+within-event event.Err s e m b z q e' b' z' w d c a =
     record {
-      core = core_of event.Err s e m b z q e' b' z' w d c a;
+      population = within-population event.Err s e m b z q e' b' z' w d c a;
       settings = d.settings;
       number = d.number;
       codes = d.codes;
-      genotype = each-with (IsListed (length w.genotypes)) (record_after event.Err (front w)) w.living (front_listed s e m b z q w d) d.genotype;
+      genotype = each-with (GenotypeBelow (length w.genotypes)) (record_after event.Err (front w)) w.living (front-genotype_below s e m b z q w d) d.genotype;
       genotype_count = d.genotype_count;
       listed = listed-weaker b b' w.genotypes (omega (arith, a.next_birth)) d.listed;
       saves = saves-weaker q z z' s.save_at w.genotypes w.saved (omega (arith, a.size)) d.saves;
     }
-during event.Good s e m b z q e' b' z' w d c a =
+within-event event.Good s e m b z q e' b' z' w d c a =
     record {
-      core = core_of event.Good s e m b z q e' b' z' w d c a;
+      population = within-population event.Good s e m b z q e' b' z' w d c a;
       settings = d.settings;
       number = d.number;
       codes = d.codes;
@@ -155,49 +155,49 @@ during event.Good s e m b z q e' b' z' w d c a =
       listed = listed-weaker b b' w.genotypes (omega (arith, a.next_birth)) d.listed;
       saves = saves-weaker q z z' s.save_at w.genotypes w.saved (omega (arith, a.size)) d.saves;
     }
-during event.GiveUp s e m b z q e' b' z' w d c a =
+within-event event.GiveUp s e m b z q e' b' z' w d c a =
     record {
-      core = core_of event.GiveUp s e m b z q e' b' z' w d c a;
+      population = within-population event.GiveUp s e m b z q e' b' z' w d c a;
       settings = d.settings;
       number = d.number;
       codes = d.codes;
-      genotype = each-with (IsListed (length w.genotypes)) (record_after event.GiveUp (front w)) w.living (front_listed s e m b z q w d) d.genotype;
+      genotype = each-with (GenotypeBelow (length w.genotypes)) (record_after event.GiveUp (front w)) w.living (front-genotype_below s e m b z q w d) d.genotype;
       genotype_count = d.genotype_count;
       listed = listed-weaker b b' w.genotypes (omega (arith, a.next_birth)) d.listed;
       saves = saves-weaker q z z' s.save_at w.genotypes w.saved (omega (arith, a.size)) d.saves;
     }
-during (event.Mal at size) s e m b z q e' b' z' w d c a =
+within-event (event.Mal at size) s e m b z q e' b' z' w d c a =
     record {
-      core = core_of (event.Mal at size) s e m b z q e' b' z' w d c a;
+      population = within-population (event.Mal at size) s e m b z q e' b' z' w d c a;
       settings = d.settings;
       number = d.number;
       codes = d.codes;
-      genotype = each-with (IsListed (length w.genotypes)) (record_after (event.Mal at size) (front w)) w.living (front_listed s e m b z q w d) d.genotype;
+      genotype = each-with (GenotypeBelow (length w.genotypes)) (record_after (event.Mal at size) (front w)) w.living (front-genotype_below s e m b z q w d) d.genotype;
       genotype_count = d.genotype_count;
       listed = listed-weaker b b' w.genotypes (omega (arith, a.next_birth)) d.listed;
       saves = saves-weaker q z z' s.save_at w.genotypes w.saved (omega (arith, a.size)) d.saves;
     }
-during (event.Reap place) s e m b z q e' b' z' w d c a =
+within-event (event.Reap place) s e m b z q e' b' z' w d c a =
     record {
-      core = core_of (event.Reap place) s e m b z q e' b' z' w d c a;
+      population = within-population (event.Reap place) s e m b z q e' b' z' w d c a;
       settings = d.settings;
       number = d.number;
       codes = d.codes;
-      genotype = each-without (IsListed (length w.genotypes)) (slice_index w.reaper place) w.living d.genotype;
+      genotype = each-without (GenotypeBelow (length w.genotypes)) (slice_index w.reaper place) w.living d.genotype;
       genotype_count = d.genotype_count;
       listed = listed-weaker b b' w.genotypes (omega (arith, a.next_birth)) d.listed;
       saves = saves-weaker q z z' s.save_at w.genotypes w.saved (omega (arith, a.size)) d.saves;
     }
-during (event.Divide ran moved) s e m b z q e' b' z' w d c a =
-    let f = front_fine s.soup_size e m b w d.core in
-    born_during s e m b z q e' b' z' ran moved w (front w).daughter d f.daughter c.0 c.1 (omega (arith, a.next_birth)) (omega (arith, a.size))
-    (core_of (event.Divide ran moved) s e m b z q e' b' z' w d c a)
+within-event (event.Divide ran moved) s e m b z q e' b' z' w d c a =
+    let f = front-in_bounds s.soup_size e m b w d.population in
+    within-divide s e m b z q e' b' z' ran moved w (front w).daughter d f.daughter c.0 c.1 (omega (arith, a.next_birth)) (omega (arith, a.size))
+    (within-population (event.Divide ran moved) s e m b z q e' b' z' w d c a)
 
 -- ---- the record of a step put in
 
 -- a record with the same blocks leaves who owns a cell
-tidy-put : (c : Creature) (w : World) → Led w → Tidy w → Shares (front w) c → Tidy (put c w)
-tidy-put c w l t f =
+each_once-put : (c : Creature) (w : World) → HasFront w → EachOnce w → Shares (front w) c → EachOnce (put c w)
+each_once-put c w l t f =
     let same : c.id ≡ first_of w.slicer = f.id ∙ front-id w l in
     record {
       once = λ id. rw (ids_of-with c w.living) (t.once id);
@@ -208,12 +208,12 @@ tidy-put c w l t f =
           omega (arith, owners-put c w p l t.once same, own, t.apart p));
     }
 
-pub during-put : (c : Creature) (s : Settings) (e m b z q : ℕ) (w : World) → During s e m b z q w → Shares (front w) c → InSoup s.soup_size (m + 1) c
-    → During s e (m + 1) b z q (put c w)
-during-put c s e m b z q w d f h =
-    let g = front_fine s.soup_size e m b w d.core in
+pub within-put : (c : Creature) (s : Settings) (e m b z q : ℕ) (w : World) → WithinQuantum s e m b z q w → Shares (front w) c → InSoup s.soup_size (m + 1) c
+    → WithinQuantum s e (m + 1) b z q (put c w)
+within-put c s e m b z q w d f h =
+    let g = front-in_bounds s.soup_size e m b w d.population in
     record {
-      core = core-put c s.soup_size e m b 1 w d.core (tidy-put c w d.core.led d.core.tidy f) (led-put c w d.core.led) (record {
+      population = population-put c s.soup_size e m b 1 w d.population (each_once-put c w d.population.has_front d.population.each_once f) (has_front-put c w d.population.has_front) (record {
         own = subst (IsBlock s.soup_size) (sym f.own) g.own;
         daughter = subst (λ o. IfSome o (IsBlock s.soup_size)) (sym f.daughter) g.daughter;
         ip = h.0;
@@ -226,7 +226,7 @@ during-put c s e m b z q w d f h =
       settings = d.settings;
       number = d.number;
       codes = d.codes;
-      genotype = each-with (IsListed (length w.genotypes)) c w.living (rw (f.genotype) (front_listed s e m b z q w d)) d.genotype;
+      genotype = each-with (GenotypeBelow (length w.genotypes)) c w.living (rw (f.genotype) (front-genotype_below s e m b z q w d)) d.genotype;
       genotype_count = d.genotype_count;
       listed = d.listed;
       saves = d.saves;

@@ -20,17 +20,17 @@ use Rattle.tierra_model.specs.Events.{with_creature}
 use Rattle.tierra_model.specs.Setups.{SetupFields, IsSetup, block_of}
 use Rattle.tierra_model.specs.Serial.{overwrite, empty_world, with_inocula, start, serial}
 use Rattle.tierra_model.proofs.Owners.{ids_of-append, times_in-append, sum_of-append}
-use Rattle.tierra_model.proofs.Orders.{ordered-push}
-use Rattle.tierra_model.proofs.Tidy.{tidy-with_creature}
-use Rattle.tierra_model.proofs.Core.{Each, Fine, each-map, each-append}
+use Rattle.tierra_model.proofs.BirthOrder.{ordered-push}
+use Rattle.tierra_model.proofs.EachOnce.{each_once-with_creature}
+use Rattle.tierra_model.proofs.Population.{Each, InBounds, each-map, each-append}
 use Rattle.tierra_model.proofs.Genotypes.{Listed, Counts, with_individual-listed}
 use Rattle.tierra_model.proofs.Savings.{Saves, saves-with_individual}
-use Rattle.tierra_model.proofs.During.{IsCell, IsListed}
-use Rattle.tierra_model.proofs.Sound.{all_from_each, sizes_below, all_born, quantum_goes_on}
+use Rattle.tierra_model.proofs.WithinQuantum.{IsCell, GenotypeBelow}
+use Rattle.tierra_model.proofs.Sound.{all_from_each, sizes_below, all_born, quantum_is_sound}
 use Rattle.tierra_model.proofs.SumOfSizes.{Lies, sizes_fit}
 
 -- k creatures are in the world, whose genotypes weigh z at the most, and those of the list are still to come
-record Starts (s : Settings) (k z : ℕ) (cs : List Inoculum) (w : World) : Type 0 where
+record Inoculating (s : Settings) (k z : ℕ) (cs : List Inoculum) (w : World) : Type 0 where
   settings : w.settings ≡ s
   births : w.births ≡ 0
   deaths : w.deaths ≡ 0
@@ -46,8 +46,8 @@ record Starts (s : Settings) (k z : ℕ) (cs : List Inoculum) (w : World) : Type
   order : Ordered 1 (ids_of w.living)
   zero : times_in (ids_of w.living) 0 ≡ 0
   apart : (p : ℕ) → owners w.living p + sum_of (λ c. one_if (is_in (block_of c) p)) cs ≤ 1
-  each : Each (Fine s.soup_size 0 0) w.living
-  genotype : Each (IsListed (length w.genotypes)) w.living
+  each : Each (InBounds s.soup_size 0 0) w.living
+  genotype : Each (GenotypeBelow (length w.genotypes)) w.living
   genotype_count : length w.genotypes ≤ k
   listed : Listed k w.genotypes
   saves : Saves 0 z s.save_at w.genotypes w.saved
@@ -56,10 +56,10 @@ length-overwrite : (xs : List ℕ) (at : ℕ) (ys : List ℕ) → at + length ys
 length-overwrite xs at ys h =
     omega (arith, length-append (take at xs ++ ys) (drop (at + length ys) xs), length-append (take at xs) ys, length-take at xs, length-drop (at + length ys) xs)
 
-one_starts : (s : Settings) (k z : ℕ) (c : Inoculum) (cs : List Inoculum) (w : World) → IsCode c.code → c.at + length c.code ≤ s.soup_size
-    → Starts s k z (c ∷ cs) w
-    → Starts s (k + 1) (z + (length c.code + 100)) cs (with_creature w.genotypes (block_of c) c.code None 0 (record w { soup = overwrite w.soup c.at c.code }))
-one_starts s k z c cs w code lies d =
+inoculating-one : (s : Settings) (k z : ℕ) (c : Inoculum) (cs : List Inoculum) (w : World) → IsCode c.code → c.at + length c.code ≤ s.soup_size
+    → Inoculating s k z (c ∷ cs) w
+    → Inoculating s (k + 1) (z + (length c.code + 100)) cs (with_creature w.genotypes (block_of c) c.code None 0 (record w { soup = overwrite w.soup c.at c.code }))
+inoculating-one s k z c cs w code lies d =
     let b : Block = block_of c in
     let n : ℕ = s.soup_size in
     let gs : List Genotype = (with_individual w.genotypes c.code None 0).0 in
@@ -67,7 +67,7 @@ one_starts s k z c cs w code lies d =
     let r : Listed (k + 1) gs × Counts c.code w.genotypes gs j = with_individual-listed k w.genotypes c.code None 0 code tt d.listed in
     let v : World = record w { soup = overwrite w.soup c.at c.code } in
     let nb : Creature = newborn w.next_birth b j in
-    let t = tidy-with_creature w.genotypes b c.code None 0 v d.once d.reaper d.fresh in
+    let t = each_once-with_creature w.genotypes b c.code None 0 v d.once d.reaper d.fresh in
     let ids : ids_of (w.living ++ nb ∷ []) ≡ ids_of w.living ++ w.next_birth ∷ [] = ids_of-append w.living (nb ∷ []) in
     let none : (w.next_birth == 0) ≡ false = nonzero w.next_birth (omega (arith, d.next_birth)) in
     let place : IsBlock n b = (code.0, code.1, lies) in
@@ -90,7 +90,7 @@ one_starts s k z c cs w code lies d =
       order = subst (Ordered 1) (sym ids) (ordered-push 1 w.next_birth (ids_of w.living) (omega (arith, d.next_birth)) d.fresh d.order);
       zero = ap (λ (y : List ℕ). times_in y 0) ids ∙ times_in-append (ids_of w.living) (w.next_birth ∷ []) 0 ∙ omega (arith, d.zero, ap one_if none);
       apart = λ p. (let a = d.apart p in let o = sum_of-append (λ (x : Creature). owners_of x p) w.living (nb ∷ []) in omega arith);
-      each = each-append (Fine n 0 0) w.living (nb ∷ []) d.each (
+      each = each-append (InBounds n 0 0) w.living (nb ∷ []) d.each (
         record {
           own = place;
           daughter = tt;
@@ -103,8 +103,8 @@ one_starts s k z c cs w code lies d =
         },
         tt,
       );
-      genotype = each-append (IsListed (length gs)) w.living (nb ∷ [])
-          (each-map (IsListed (length w.genotypes)) (IsListed (length gs)) (λ y p. omega (arith, r.1.longer)) w.living d.genotype) (r.1.among, tt);
+      genotype = each-append (GenotypeBelow (length gs)) w.living (nb ∷ [])
+          (each-map (GenotypeBelow (length w.genotypes)) (GenotypeBelow (length gs)) (λ y p. omega (arith, r.1.longer)) w.living d.genotype) (r.1.among, tt);
       genotype_count = omega (arith, r.1.few, d.genotype_count);
       listed = r.0;
       saves = subst (λ (t : Settings). Saves 0 (z + (length c.code + 100)) s.save_at gs (savings_after t.save_at gs j 0 w.saved)) (sym d.settings) saves;
@@ -119,21 +119,21 @@ weight c = length c.code + 100
 abbrev IsWritten : Inoculum → Type 0
 IsWritten c = IsCode c.code
 
-starts-at : (s : Settings) (k z k' z' : ℕ) (cs : List Inoculum) (w : World) → k ≡ k' → z ≡ z' → Starts s k z cs w → Starts s k' z' cs w
-starts-at s k z k' z' cs w h l d = subst (λ i. Starts s i z' cs w) h (subst (λ i. Starts s k i cs w) l d)
+inoculating-at : (s : Settings) (k z k' z' : ℕ) (cs : List Inoculum) (w : World) → k ≡ k' → z ≡ z' → Inoculating s k z cs w → Inoculating s k' z' cs w
+inoculating-at s k z k' z' cs w h l d = subst (λ i. Inoculating s i z' cs w) h (subst (λ i. Inoculating s k i cs w) l d)
 
-all_start : (s : Settings) (k z : ℕ) (cs : List Inoculum) (w : World) → All IsWritten cs → All (Lies s.soup_size) cs → Starts s k z cs w
-    → Starts s (k + length cs) (z + sum_of weight cs) [] (with_inocula cs w)
-all_start s k z [] w h l d = starts-at s k z (k + 0) (z + 0) [] w (omega arith) (omega arith) d
-all_start s k z (c ∷ cs) w h l d =
+inoculating-all : (s : Settings) (k z : ℕ) (cs : List Inoculum) (w : World) → All IsWritten cs → All (Lies s.soup_size) cs → Inoculating s k z cs w
+    → Inoculating s (k + length cs) (z + sum_of weight cs) [] (with_inocula cs w)
+inoculating-all s k z [] w h l d = inoculating-at s k z (k + 0) (z + 0) [] w (omega arith) (omega arith) d
+inoculating-all s k z (c ∷ cs) w h l d =
     let v : World = with_creature w.genotypes (block_of c) c.code None 0 (record w { soup = overwrite w.soup c.at c.code }) in
-    let one = one_starts s k z c cs w (All-head IsWritten c cs h) (All-head (Lies s.soup_size) c cs l) d in
-    starts-at s (k + 1 + length cs) (z + (length c.code + 100) + sum_of weight cs) (k + suc (length cs)) (z + (length c.code + 100 + sum_of weight cs)) [] (with_inocula cs v)
+    let one = inoculating-one s k z c cs w (All-head IsWritten c cs h) (All-head (Lies s.soup_size) c cs l) d in
+    inoculating-at s (k + 1 + length cs) (z + (length c.code + 100) + sum_of weight cs) (k + suc (length cs)) (z + (length c.code + 100 + sum_of weight cs)) [] (with_inocula cs v)
     (omega arith) (omega arith)
-    (all_start s (k + 1) (z + (length c.code + 100)) cs v (All-tail IsWritten c cs h) (All-tail (Lies s.soup_size) c cs l) one)
+    (inoculating-all s (k + 1) (z + (length c.code + 100)) cs v (All-tail IsWritten c cs h) (All-tail (Lies s.soup_size) c cs l) one)
 
-empty_starts : (s : Settings) (cs : List Inoculum) → ((p : ℕ) → sum_of (λ c. one_if (is_in (block_of c) p)) cs ≤ 1) → Starts s 0 0 cs (empty_world s)
-empty_starts s cs apart =
+inoculating-none : (s : Settings) (cs : List Inoculum) → ((p : ℕ) → sum_of (λ c. one_if (is_in (block_of c) p)) cs ≤ 1) → Inoculating s 0 0 cs (empty_world s)
+inoculating-none s cs apart =
     record {
       settings = refl;
       births = refl;
@@ -176,10 +176,10 @@ weight_few (c ∷ cs) h =
     let r = weight_few cs (All-tail IsWritten c cs h) in
     (omega (arith, r.0), omega (arith, r.1))
 
-started_sound : (k z : ℕ) (w : World) → 0 < k → k ≤ 2 ^ 20 → z < 2 ^ 30 → Starts w.settings k z [] w → IsSound w
-started_sound k z w some few small d =
+inoculated-sound : (k z : ℕ) (w : World) → 0 < k → k ≤ 2 ^ 20 → z < 2 ^ 30 → Inoculating w.settings k z [] w → IsSound w
+inoculated-sound k z w some few small d =
     let n : ℕ = w.settings.soup_size in
-    let fine : All (Fine n 0 0) w.living = all_from_each (Fine n 0 0) w.living d.each in
+    let fine : All (InBounds n 0 0) w.living = all_from_each (InBounds n 0 0) w.living d.each in
     let q : w.quanta ≡ 0 = d.quanta in
     let next : w.next_birth ≡ k + 1 = d.next_birth in
     record {
@@ -193,7 +193,7 @@ started_sound k z w some few small d =
       placed = λ k x h. (let f = fine k x h in record { own = f.own; daughter = f.daughter });
       apart = λ p. (let a = d.apart p in omega arith);
       processor = λ k x h. (let f = fine k x h in (f.ip, f.sp));
-      genotype = all_from_each (IsListed (length w.genotypes)) w.living d.genotype;
+      genotype = all_from_each (GenotypeBelow (length w.genotypes)) w.living d.genotype;
       numbers = all_born w.next_birth w.living d.zero d.fresh;
       births = omega (arith, d.births);
       genotype_count = omega (arith, d.genotype_count);
@@ -213,17 +213,17 @@ started_sound k z w some few small d =
       sizes = λ p. sizes_below w.genotypes w.saved 0 z p d.saves.sizes d.saves.size small;
     }
 
-pub start_sound : (setup : SetupFields) → IsSetup setup → IsSound (start setup)
+pub start-sound : (setup : SetupFields) → IsSetup setup → IsSound (start setup)
 unfolding start
-start_sound setup h =
+start-sound setup h =
     let s : Settings = setup.settings in
     let cs : List Inoculum = setup.creatures in
     let w : World = with_inocula cs (empty_world s) in
     let fit = sizes_fit s.soup_size cs h.apart h.placed in
     let few = weight_few cs h.written in
-    let d : Starts s (0 + length cs) (0 + sum_of weight cs) [] w = all_start s 0 0 cs (empty_world s) h.written h.placed (empty_starts s cs h.apart) in
-    started_sound (0 + length cs) (0 + sum_of weight cs) w (omega (arith, h.some)) (omega (arith, s.soup, few.1)) (omega (arith, s.soup, few.0))
-    (subst (λ t. Starts t (0 + length cs) (0 + sum_of weight cs) [] w) (sym d.settings) d)
+    let d : Inoculating s (0 + length cs) (0 + sum_of weight cs) [] w = inoculating-all s 0 0 cs (empty_world s) h.written h.placed (inoculating-none s cs h.apart) in
+    inoculated-sound (0 + length cs) (0 + sum_of weight cs) w (omega (arith, h.some)) (omega (arith, s.soup, few.1)) (omega (arith, s.soup, few.0))
+    (subst (λ t. Inoculating t (0 + length cs) (0 + sum_of weight cs) [] w) (sym d.settings) d)
 
 -- ---- a serial run
 
@@ -232,12 +232,12 @@ start-same [] w = (refl, refl)
 start-same (c ∷ cs) w =
     start-same cs (with_creature w.genotypes (block_of c) c.code None 0 (record w { soup = overwrite w.soup c.at c.code }))
 
-pub serial_sound : SerialIsSound
+pub serial_is_sound : SerialIsSound
 unfolding serial start
-serial_sound setup zero h few =
+serial_is_sound setup zero h few =
     let same = start-same setup.creatures (empty_world setup.settings) in
-    record { sound = start_sound setup h; settings = same.1; quanta = same.0 }
-serial_sound setup (suc n) h few =
-    let r = serial_sound setup n h (omega arith) in
-    let q = quantum_goes_on (serial setup n) r.sound (omega (arith, r.quanta)) in
+    record { sound = start-sound setup h; settings = same.1; quanta = same.0 }
+serial_is_sound setup (suc n) h few =
+    let r = serial_is_sound setup n h (omega arith) in
+    let q = quantum_is_sound (serial setup n) r.sound (omega (arith, r.quanta)) in
     record { sound = q.sound; settings = q.settings ∙ r.settings; quanta = omega (arith, q.quanta, r.quanta) }

@@ -64,8 +64,8 @@ fit_from-least owned size p (suc k) = go (are_free owned p size) refl (fit_from-
     go true e f = (omega arith, omega arith, is_free owned p size e, λ b low high free. omega arith)
     go false e f = later (first_fit_from owned size (p + 1) k) e f
 
-pub least_fit : FirstFitIsLeast
-least_fit n owned size = go (first_fit n owned size) (fit_from-least owned size 0 (n + 1 - size))
+pub first_fit_is_least : FirstFitIsLeast
+first_fit_is_least n owned size = go (first_fit n owned size) (fit_from-least owned size 0 (n + 1 - size))
   where
     go : (o : Option ℕ) → FitFrom owned size 0 (n + 1 - size) o → IsFit n owned size o
     go None f = λ a room. f a (omega arith) (omega (arith, room.0)) room.1

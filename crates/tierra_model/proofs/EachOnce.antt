@@ -15,9 +15,9 @@ use Rattle.tierra_model.specs.Individuals.{with_individual, genotypes_at_birth}
 use Rattle.tierra_model.specs.Events.{apply_event, record_after, with_birth, with_death, with_creature}
 use Rattle.tierra_model.proofs.Living.{is_here, find-append, is_here-append}
 use Rattle.tierra_model.proofs.Owners.{sum_of-with, sum_of-without, sum_of-append, ids_of-with, ids_of-without, ids_of-append, times_in-append, times_in-filter_same, times_in-filter_other}
-use Rattle.tierra_model.proofs.Commutes.{Led, front-id, mark, record_after-id}
+use Rattle.tierra_model.proofs.Commutes.{HasFront, front-id, put_after, record_after-id}
 
-pub record Tidy (w : World) : Type 0 where
+pub record EachOnce (w : World) : Type 0 where
   pub once : (id : ℕ) → times_in (ids_of w.living) id ≤ 1
   pub reaper : (id : ℕ) → times_in w.reaper id ≡ times_in (ids_of w.living) id
   pub fresh : (id : ℕ) → w.next_birth ≤ id → times_in (ids_of w.living) id ≡ 0
@@ -26,18 +26,18 @@ pub record Tidy (w : World) : Type 0 where
 -- ---- who owns a cell
 
 -- a record put in the place of the front's
-pub owners-put : (c : Creature) (v : World) (p : ℕ) → Led v → ((id : ℕ) → times_in (ids_of v.living) id ≤ 1) → c.id ≡ first_of v.slicer
+pub owners-put : (c : Creature) (v : World) (p : ℕ) → HasFront v → ((id : ℕ) → times_in (ids_of v.living) id ≤ 1) → c.id ≡ first_of v.slicer
     → owners (with_record c v.living) p + owners_of (front v) p ≡ owners v.living p + owners_of c p
 owners-put c v p l once same =
     subst (λ n. owners (with_record c v.living) p + owners_of (one_of v.living n) p ≡ owners v.living p + owners_of c p) same
     (sum_of-with (λ d. owners_of d p) c v.living (rw same l.here) (once c.id))
 
 -- an event that marks the record alone
-pub owners-mark : (e : Event) (w : World) (p : ℕ) → Led w → Tidy w
-    → owners (mark e w).living p + owners_of (front w) p ≡ owners w.living p + owners_of (record_after e (front w)) p
-owners-mark e w p l t = owners-put (record_after e (front w)) w p l t.once (record_after-id e (front w) ∙ front-id w l)
+pub owners-put_after : (e : Event) (w : World) (p : ℕ) → HasFront w → EachOnce w
+    → owners (put_after e w).living p + owners_of (front w) p ≡ owners w.living p + owners_of (record_after e (front w)) p
+owners-put_after e w p l t = owners-put (record_after e (front w)) w p l t.once (record_after-id e (front w) ∙ front-id w l)
 
-pub front-with_birth : (known : List Genotype) (b : Option Block) (mother : ℕ) (w : World) → Led w → (first_of (with_birth known b mother w).slicer ≡ first_of w.slicer) × (front (with_birth known b mother w) ≡ front w) × Led (with_birth known b mother w)
+pub front-with_birth : (known : List Genotype) (b : Option Block) (mother : ℕ) (w : World) → HasFront w → (first_of (with_birth known b mother w).slicer ≡ first_of w.slicer) × (front (with_birth known b mother w) ≡ front w) × HasFront (with_birth known b mother w)
 front-with_birth known None mother w l = (refl, refl, l)
 front-with_birth known (Some b) mother w l =
     let first : slice_index (w.slicer ++ w.next_birth ∷ []) 0 ≡ slice_index w.slicer 0 = first-append w.slicer (w.next_birth ∷ []) l.line in
@@ -63,8 +63,8 @@ owners-with_birth known b mother w p =
 
 -- ---- what is kept
 
-pub tidy-mark : (e : Event) (w : World) → Led w → Tidy w → ((p : ℕ) → owners (mark e w).living p ≤ 1) → Tidy (mark e w)
-tidy-mark e w l t a =
+pub each_once-put_after : (e : Event) (w : World) → HasFront w → EachOnce w → ((p : ℕ) → owners (put_after e w).living p ≤ 1) → EachOnce (put_after e w)
+each_once-put_after e w l t a =
     let c : Creature = record_after e (front w) in
     record {
       once = λ id. rw (ids_of-with c w.living) (t.once id);
@@ -73,14 +73,14 @@ tidy-mark e w l t a =
       apart = a;
     }
 
-pub tidy-with_creature : (known : List Genotype) (b : Block) (code : List ℕ) (parent : Option ℕ) (q : ℕ) (w : World)
+pub each_once-with_creature : (known : List Genotype) (b : Block) (code : List ℕ) (parent : Option ℕ) (q : ℕ) (w : World)
     → ((id : ℕ) → times_in (ids_of w.living) id ≤ 1)
     → ((id : ℕ) → times_in w.reaper id ≡ times_in (ids_of w.living) id)
     → ((id : ℕ) → w.next_birth ≤ id → times_in (ids_of w.living) id ≡ 0)
     → ((id : ℕ) → times_in (ids_of (with_creature known b code parent q w).living) id ≤ 1)
     × ((id : ℕ) → times_in (with_creature known b code parent q w).reaper id ≡ times_in (ids_of (with_creature known b code parent q w).living) id)
     × ((id : ℕ) → (with_creature known b code parent q w).next_birth ≤ id → times_in (ids_of (with_creature known b code parent q w).living) id ≡ 0)
-tidy-with_creature known b code parent q w once reaper fresh =
+each_once-with_creature known b code parent q w once reaper fresh =
     let k : ℕ = (with_individual known code parent q).1 in
     let ids : ids_of (w.living ++ newborn w.next_birth b k ∷ []) ≡ ids_of w.living ++ w.next_birth ∷ [] = ids_of-append w.living (newborn w.next_birth b k ∷ []) in
     let count : (id : ℕ) → times_in (ids_of w.living ++ w.next_birth ∷ []) id ≡ times_in (ids_of w.living) id + one_if (w.next_birth == id)
@@ -96,16 +96,16 @@ tidy-with_creature known b code parent q w once reaper fresh =
       ]))),
     )
 
-pub tidy-with_birth : (known : List Genotype) (b : Option Block) (mother : ℕ) (w : World) → Led w → Tidy w
+pub each_once-with_birth : (known : List Genotype) (b : Option Block) (mother : ℕ) (w : World) → HasFront w → EachOnce w
     → ((id : ℕ) → times_in (ids_of (with_birth known b mother w).living) id ≤ 1)
     × ((id : ℕ) → times_in (with_birth known b mother w).reaper id ≡ times_in (ids_of (with_birth known b mother w).living) id)
     × ((id : ℕ) → (with_birth known b mother w).next_birth ≤ id → times_in (ids_of (with_birth known b mother w).living) id ≡ 0)
-tidy-with_birth known None mother w l t = (t.once, t.reaper, t.fresh)
-tidy-with_birth known (Some b) mother w l t =
-    tidy-with_creature known b (slice_range w.soup b.at (b.at + b.size)) (Some mother) (w.quanta + 1) w t.once t.reaper t.fresh
+each_once-with_birth known None mother w l t = (t.once, t.reaper, t.fresh)
+each_once-with_birth known (Some b) mother w l t =
+    each_once-with_creature known b (slice_range w.soup b.at (b.at + b.size)) (Some mother) (w.quanta + 1) w t.once t.reaper t.fresh
 
 -- the newborn's block is its mother's daughter block no more
-pub owners-divide : (ran moved : ℕ) (w : World) (p : ℕ) → Led w → Tidy w → owners (apply_event w (event.Divide ran moved)).living p ≡ owners w.living p
+pub owners-divide : (ran moved : ℕ) (w : World) (p : ℕ) → HasFront w → EachOnce w → owners (apply_event w (event.Divide ran moved)).living p ≡ owners w.living p
 unfolding apply_event
 owners-divide ran moved w p l t = go (front w).daughter refl
   where
@@ -118,19 +118,19 @@ owners-divide ran moved w p l t = go (front w).daughter refl
         omega (arith, owners-put c w p l t.once (front-id w l))
     go (Some b) e =
         let v : World = with_birth (genotypes_at_birth (front w) ran moved w.genotypes) (Some b) (front w).genotype w in
-        let led = front-with_birth (genotypes_at_birth (front w) ran moved w.genotypes) (Some b) (front w).genotype w l in
+        let born = front-with_birth (genotypes_at_birth (front w) ran moved w.genotypes) (Some b) (front w).genotype w l in
         let own : one_if (is_in_daughter (front w).daughter p) ≡ one_if (is_in b p) = ap (λ (x : Option Block). one_if (is_in_daughter x p)) e in
         let put : owners (with_record c v.living) p + owners_of (front v) p ≡ owners v.living p + owners_of c p
-        = owners-put c v p led.2 (tidy-with_birth (genotypes_at_birth (front w) ran moved w.genotypes) (Some b) (front w).genotype w l t).0 (front-id w l ∙ sym led.0) in
-        let same : owners_of (front v) p ≡ owners_of (front w) p = ap (λ (x : Creature). owners_of x p) led.1 in
+        = owners-put c v p born.2 (each_once-with_birth (genotypes_at_birth (front w) ran moved w.genotypes) (Some b) (front w).genotype w l t).0 (front-id w l ∙ sym born.0) in
+        let same : owners_of (front v) p ≡ owners_of (front w) p = ap (λ (x : Creature). owners_of x p) born.1 in
         omega (arith, owners-with_birth (genotypes_at_birth (front w) ran moved w.genotypes) b (front w).genotype w p, put, same, own)
 
-pub owners-reap : (w : World) (id p : ℕ) → Tidy w → is_here w.living id ≡ true
+pub owners-reap : (w : World) (id p : ℕ) → EachOnce w → is_here w.living id ≡ true
     → owners (with_death id w).living p + owners_of (one_of w.living id) p ≡ owners w.living p
 owners-reap w id p t h = sum_of-without (λ d. owners_of d p) w.living id h (t.once id)
 
-pub tidy-with_death : (w : World) (id : ℕ) → Tidy w → is_here w.living id ≡ true → Tidy (with_death id w)
-tidy-with_death w id t h =
+pub each_once-with_death : (w : World) (id : ℕ) → EachOnce w → is_here w.living id ≡ true → EachOnce (with_death id w)
+each_once-with_death w id t h =
     record {
       once = λ k. rw (ids_of-without id w.living) (elim (eqb_tells k id) [
         | inl e ↦ rw (e.1) (rw (times_in-filter_same (ids_of w.living) id) (omega arith))

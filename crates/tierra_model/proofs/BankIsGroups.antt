@@ -12,9 +12,9 @@ use Rattle.tierra_model.specs.Sound.{IsSound, ParentsBelow}
 use Rattle.tierra_model.specs.Setups.{SetupFields, IsSetup}
 use Rattle.tierra_model.specs.Serial.{serial}
 use Rattle.tierra_model.specs.Genebank.{number_before, name_of, saved_of, saved_in, group_if_any, bank, groups_below}
-use Rattle.tierra_model.proofs.Sound.{known_of}
-use Rattle.tierra_model.proofs.Starts.{serial_sound}
-use Rattle.tierra_model.proofs.Grows.{Extends, AddsSavings, SavedIn, adds-run}
+use Rattle.tierra_model.proofs.Sound.{sound-saved_below}
+use Rattle.tierra_model.proofs.StartIsSound.{serial_is_sound}
+use Rattle.tierra_model.proofs.GenotypesStay.{Extends, AddsSavings, SavedIn, adds-run}
 
 -- ---- names stay
 
@@ -99,7 +99,7 @@ saved_in-old : (q n : ℕ) (w v : World) → IsSound w → AddsSavings n w v →
 saved_in-old q n w v s g h =
     ap (λ (l : List Saving). map (saved_of v.genotypes) (of_quantum q l)) g.saved
     ∙ ap (λ (l : List Saving). map (saved_of v.genotypes) l) (of_quantum-old q n w.saved g.added h g.new)
-    ∙ all_same q w.genotypes v.genotypes w.saved (known_of w s) g.genotypes s.parents
+    ∙ all_same q w.genotypes v.genotypes w.saved (sound-saved_below w s) g.genotypes s.parents
 
 groups_below-old : (m n : ℕ) (w v : World) → IsSound w → AddsSavings n w v → m ≤ n → groups_below v m ≡ groups_below w m
 groups_below-old zero n w v s g h = refl
@@ -122,7 +122,7 @@ unfolding serial bank
 serial_below setup zero h few = refl
 serial_below setup (suc n) h few =
     let w : World = serial setup n in
-    let r = serial_sound setup n h (omega arith) in
+    let r = serial_is_sound setup n h (omega arith) in
     quantum_below (suc n) w r.sound (omega (arith, r.quanta))
     ∙ ap (λ (l : List _). l ++ group_if_any n (saved_in n w)) (serial_below setup n h (omega arith))
 
@@ -130,7 +130,7 @@ pub bank_is_groups : BankIsGroups
 unfolding bank
 bank_is_groups setup n h few =
     let w : World = serial setup n in
-    let r = serial_sound setup n h few in
+    let r = serial_is_sound setup n h few in
     let last : w.quanta + 1 ≡ suc n = omega (arith, r.quanta) in
     let next : suc n ≡ n + 1 = omega arith in
     ap (λ (m : ℕ). groups_below w m) last

@@ -188,8 +188,8 @@ differ-least same e xs ys d h =
       differs = r.differs;
     }
 
-pub the_least_place : LeastPlace
-the_least_place = (differ-least same_block decides-block, differ-least same_standing decides-standing)
+pub least_place : LeastPlace
+least_place = (differ-least same_block decides-block, differ-least same_standing decides-standing)
 
 -- ---- each part
 
@@ -269,5 +269,5 @@ difference-none reads c w a =
     let k = yard-none reads.yard (yard w) a.yard in
     λ i. or_else (f i) (or_else (g i) (or_else (h i) (k i)))
 
-pub the_difference : DifferenceTells
-the_difference reads c w = (difference-agrees reads c w, difference-none reads c w)
+pub difference_tells : DifferenceTells
+difference_tells reads c w = (difference-agrees reads c w, difference-none reads c w)

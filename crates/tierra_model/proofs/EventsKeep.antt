@@ -17,13 +17,13 @@ use Rattle.tierra_model.specs.Events.{apply_event, record_after, with_birth, err
 use Rattle.tierra_model.specs.Replay.{CanHappen}
 use Rattle.tierra_model.proofs.Living.{is_here, find-without, is_here-without}
 use Rattle.tierra_model.proofs.Owners.{is_owned-owners, is_here-times, ids_of-with}
-use Rattle.tierra_model.proofs.Commutes.{Led, front-put, front-id, led-put, mark}
+use Rattle.tierra_model.proofs.Commutes.{HasFront, front-put, front-id, has_front-put, put_after}
 use Rattle.tierra_model.proofs.Yards.{sum_of-error_move, sum_of-good_move, times_in-index}
-use Rattle.tierra_model.proofs.Tidy.{Tidy, tidy-mark, tidy-with_birth, tidy-with_death, front-with_birth, owners-mark, owners-divide}
+use Rattle.tierra_model.proofs.EachOnce.{EachOnce, each_once-put_after, each_once-with_birth, each_once-with_death, front-with_birth, owners-put_after, owners-divide}
 
--- the event leaves the same creature at the front, with its mark
-pub record Leads (w : World) (e : Event) : Type 0 where
-  pub led : Led (apply_event w e)
+-- the event leaves the same creature at the front, with its put_after
+pub record KeepsFront (w : World) (e : Event) : Type 0 where
+  pub has_front : HasFront (apply_event w e)
   pub same : first_of (apply_event w e).slicer ≡ first_of w.slicer
   pub front : front (apply_event w e) ≡ record_after e (front w)
 
@@ -35,48 +35,48 @@ filter_first (x ∷ xs) id h n = elim (eqb_tells x id) [
   | inr e ↦ (rw (e.0) refl, rw (e.0) (omega arith))
 ]
 
-pub leads : (w : World) (e : Event) → Led w → CanHappen w e → Leads w e
+pub front-event : (w : World) (e : Event) → HasFront w → CanHappen w e → KeepsFront w e
 unfolding apply_event
-leads w (event.Write at value) l c = record { led = record { line = l.line; here = l.here }; same = refl; front = refl }
-leads w event.Err l c =
+front-event w (event.Write at value) l c = record { has_front = record { line = l.line; here = l.here }; same = refl; front = refl }
+front-event w event.Err l c =
     let d : Creature = record_after event.Err (front w) in
-    let p = led-put d w l in
-    record { led = record { line = p.line; here = p.here }; same = refl; front = front-put d w l (front-id w l) }
-leads w event.Good l c = record { led = record { line = l.line; here = l.here }; same = refl; front = refl }
-leads w event.GiveUp l c =
+    let p = has_front-put d w l in
+    record { has_front = record { line = p.line; here = p.here }; same = refl; front = front-put d w l (front-id w l) }
+front-event w event.Good l c = record { has_front = record { line = l.line; here = l.here }; same = refl; front = refl }
+front-event w event.GiveUp l c =
     let d : Creature = record_after event.GiveUp (front w) in
-    record { led = led-put d w l; same = refl; front = front-put d w l (front-id w l) }
-leads w (event.Mal at size) l c =
+    record { has_front = has_front-put d w l; same = refl; front = front-put d w l (front-id w l) }
+front-event w (event.Mal at size) l c =
     let d : Creature = record_after (event.Mal at size) (front w) in
-    record { led = led-put d w l; same = refl; front = front-put d w l (front-id w l) }
-leads w (event.Reap place) l c =
+    record { has_front = has_front-put d w l; same = refl; front = front-put d w l (front-id w l) }
+front-event w (event.Reap place) l c =
     let id : ℕ = slice_index w.reaper place in
     let other : (first_of w.slicer ≡ id → ⊥) = λ e. c.1 (sym e ∙ sym (front-id w l)) in
     let f = filter_first w.slicer id l.line other in
     record {
-      led = record { line = f.1; here = rw (f.0) (is_here-without w.living (first_of w.slicer) id other ∙ l.here) };
+      has_front = record { line = f.1; here = rw (f.0) (is_here-without w.living (first_of w.slicer) id other ∙ l.here) };
       same = f.0;
       front = ap (λ (n : ℕ). one_of (without id w.living) n) f.0
           ∙ ap (λ (o : Option Creature). unwrap_or o nobody) (find-without w.living (first_of w.slicer) id other);
     }
-leads w (event.Divide ran moved) l c =
+front-event w (event.Divide ran moved) l c =
     let b = front-with_birth (genotypes_at_birth (front w) ran moved w.genotypes) (front w).daughter (front w).genotype w l in
     let d : Creature = record_after (event.Divide ran moved) (front w) in
     record {
-      led = led-put d (with_birth (genotypes_at_birth (front w) ran moved w.genotypes) (front w).daughter (front w).genotype w) b.2;
+      has_front = has_front-put d (with_birth (genotypes_at_birth (front w) ran moved w.genotypes) (front w).daughter (front w).genotype w) b.2;
       same = b.0;
       front = front-put d (with_birth (genotypes_at_birth (front w) ran moved w.genotypes) (front w).daughter (front w).genotype w) b.2 (front-id w l ∙ sym b.0);
     }
 
-pub victim_here : (w : World) (place : ℕ) → Tidy w → place < length w.reaper → is_here w.living (slice_index w.reaper place) ≡ true
-victim_here w place t h =
+pub reaped-is_here : (w : World) (place : ℕ) → EachOnce w → place < length w.reaper → is_here w.living (slice_index w.reaper place) ≡ true
+reaped-is_here w place t h =
     is_here-times w.living (slice_index w.reaper place) (rw (← t.reaper (slice_index w.reaper place)) (times_in-index w.reaper place h))
 
-pub owners-mal : (w : World) (at size p : ℕ) → Led w → Tidy w → (front w).daughter ≡ None
-    → owners (mark (event.Mal at size) w).living p ≡ owners w.living p + one_if (is_in (record { at = at; size = size }) p)
+pub owners-mal : (w : World) (at size p : ℕ) → HasFront w → EachOnce w → (front w).daughter ≡ None
+    → owners (put_after (event.Mal at size) w).living p ≡ owners w.living p + one_if (is_in (record { at = at; size = size }) p)
 owners-mal w at size p l t e =
     let own : one_if (is_in_daughter (front w).daughter p) ≡ 0 = ap (λ (x : Option Block). one_if (is_in_daughter x p)) e in
-    omega (arith, owners-mark (event.Mal at size) w p l t)
+    omega (arith, owners-put_after (event.Mal at size) w p l t)
 
 free_owners : (living : List Creature) (p : ℕ) → is_owned living p ≡ false → owners living p ≡ 0
 free_owners living p e = let f : nat_lt 0 (owners living p) ≡ false = sym (is_owned-owners living p) ∙ e in below f
@@ -84,37 +84,37 @@ free_owners living p e = let f : nat_lt 0 (owners living p) ≡ false = sym (is_
     below : {n : ℕ} → nat_lt 0 n ≡ false → n ≡ 0
     below f = grind (arith, nat_tests)
 
-mal_apart : (w : World) (at size p : ℕ) → Tidy w → CanHappen w (event.Mal at size)
+mal_apart : (w : World) (at size p : ℕ) → EachOnce w → CanHappen w (event.Mal at size)
     → (i : Bool) → is_in (record { at = at; size = size }) p ≡ i → owners w.living p + one_if i ≤ 1
 mal_apart w at size p t c true e = omega (arith, free_owners w.living p (c.2 p e))
 mal_apart w at size p t c false e = omega (arith, t.apart p)
 
-pub tidy : (w : World) (e : Event) → Led w → Tidy w → CanHappen w e → Tidy (apply_event w e)
+pub each_once-event : (w : World) (e : Event) → HasFront w → EachOnce w → CanHappen w e → EachOnce (apply_event w e)
 unfolding apply_event
-tidy w (event.Write at value) l t c = record { once = t.once; reaper = t.reaper; fresh = t.fresh; apart = t.apart }
-tidy w event.Err l t c =
-    let m = tidy-mark event.Err w l t (λ p. omega (arith, owners-mark event.Err w p l t, t.apart p)) in
+each_once-event w (event.Write at value) l t c = record { once = t.once; reaper = t.reaper; fresh = t.fresh; apart = t.apart }
+each_once-event w event.Err l t c =
+    let m = each_once-put_after event.Err w l t (λ p. omega (arith, owners-put_after event.Err w p l t, t.apart p)) in
     record {
       once = m.once;
       fresh = m.fresh;
       apart = m.apart;
-      reaper = λ id. sum_of-error_move (λ x. one_if (x == id)) (has_id (front (mark event.Err w))) (errors_in (mark event.Err w)) w.reaper ∙ m.reaper id;
+      reaper = λ id. sum_of-error_move (λ x. one_if (x == id)) (has_id (front (put_after event.Err w))) (errors_in (put_after event.Err w)) w.reaper ∙ m.reaper id;
     }
-tidy w event.Good l t c =
+each_once-event w event.Good l t c =
     record {
       once = t.once;
       fresh = t.fresh;
       apart = t.apart;
       reaper = λ id. sum_of-good_move (λ x. one_if (x == id)) (has_id (front w)) (errors_in w) w.reaper ∙ t.reaper id;
     }
-tidy w event.GiveUp l t c =
-    tidy-mark event.GiveUp w l t (λ p. omega (arith, owners-mark event.GiveUp w p l t, t.apart p))
-tidy w (event.Mal at size) l t c =
-    tidy-mark (event.Mal at size) w l t (λ p.
+each_once-event w event.GiveUp l t c =
+    each_once-put_after event.GiveUp w l t (λ p. omega (arith, owners-put_after event.GiveUp w p l t, t.apart p))
+each_once-event w (event.Mal at size) l t c =
+    each_once-put_after (event.Mal at size) w l t (λ p.
     rw (owners-mal w at size p l t c.0) (mal_apart w at size p t c (is_in (record { at = at; size = size }) p) refl))
-tidy w (event.Reap place) l t c = tidy-with_death w (slice_index w.reaper place) t (victim_here w place t c.0)
-tidy w (event.Divide ran moved) l t c =
-    let b = tidy-with_birth (genotypes_at_birth (front w) ran moved w.genotypes) (front w).daughter (front w).genotype w l t in
+each_once-event w (event.Reap place) l t c = each_once-with_death w (slice_index w.reaper place) t (reaped-is_here w place t c.0)
+each_once-event w (event.Divide ran moved) l t c =
+    let b = each_once-with_birth (genotypes_at_birth (front w) ran moved w.genotypes) (front w).daughter (front w).genotype w l t in
     let d : Creature = record_after (event.Divide ran moved) (front w) in
     let v : World = with_birth (genotypes_at_birth (front w) ran moved w.genotypes) (front w).daughter (front w).genotype w in
     record {

@@ -124,6 +124,6 @@ nearest-found_by n cells ip way limit min = go (nat_lt (length vs) min) refl
         (found_is (pick hit cand limit 1) (grind (arith, nat_tests)) (picks hit cand limit 1))
 
 -- the looks find what the first of the candidates is
-pub nearest : NearestIsFound
-nearest n cells ip way limit min =
+pub nearest_is_found : NearestIsFound
+nearest_is_found n cells ip way limit min =
     subst (IsFound n cells ip way limit min) (sym (search-answer n cells ip way limit min)) (nearest-found_by n cells ip way limit min)

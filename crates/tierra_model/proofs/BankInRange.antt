@@ -12,9 +12,9 @@ use Rattle.tierra_model.specs.Serial.{serial}
 use Rattle.tierra_model.specs.Groups.{GroupFields, IsName, IsSaved, IsGroup}
 use Rattle.tierra_model.specs.Genebank.{number_before, name_of, saved_of, saved_in, group_if_any, groups_below}
 use Rattle.tierra_model.specs.declared.genebank.Form.TheVariants as form
-use Rattle.tierra_model.proofs.Sound.{known_of}
-use Rattle.tierra_model.proofs.Starts.{serial_sound}
-use Rattle.tierra_model.proofs.Banks.{Among, of_quantum, parent_at, bank_is_groups}
+use Rattle.tierra_model.proofs.Sound.{sound-saved_below}
+use Rattle.tierra_model.proofs.StartIsSound.{serial_is_sound}
+use Rattle.tierra_model.proofs.BankIsGroups.{Among, of_quantum, parent_at, bank_is_groups}
 
 -- ---- one saved genotype
 
@@ -98,9 +98,9 @@ are_groups : (w : World) (m : ℕ) → IsSound w → All IsGroup (groups_below w
 are_groups w zero s = All-nil IsGroup
 are_groups w (suc q) s =
     All-append IsGroup (groups_below w q) (group_if_any q (saved_in q w)) (are_groups w q s)
-    (is_group q (saved_in q w) (are_saved w q w.saved s (known_of w s) s.saved_efforts) (omega (arith, bytes_most w.genotypes q w.saved, s.sizes q)))
+    (is_group q (saved_in q w) (are_saved w q w.saved s (sound-saved_below w s) s.saved_efforts) (omega (arith, bytes_most w.genotypes q w.saved, s.sizes q)))
 
 pub bank_in_range : BankInRange
 bank_in_range setup n h few =
-    let r = serial_sound setup n h few in
+    let r = serial_is_sound setup n h few in
     subst (λ l. All IsGroup l) (bank_is_groups setup n h few) (are_groups (serial setup n) ((serial setup n).quanta + 1) r.sound)

@@ -17,10 +17,10 @@ use Rattle.tierra_model.specs.Events.{apply_event, record_after, with_birth}
 use Rattle.tierra_model.specs.Replay.{CanHappen}
 use Rattle.tierra_model.proofs.Living.{is_here}
 use Rattle.tierra_model.proofs.Owners.{ids_of-with, ids_of-append, ids_of-without, times_in-append, times_in-filter_same, times_in-filter_other, sum_of-without}
-use Rattle.tierra_model.proofs.Orders.{ordered-filter, ordered-push}
-use Rattle.tierra_model.proofs.Commutes.{Led, mark}
-use Rattle.tierra_model.proofs.Tidy.{Tidy}
-use Rattle.tierra_model.proofs.Happens.{leads, tidy, victim_here}
+use Rattle.tierra_model.proofs.BirthOrder.{ordered-filter, ordered-push}
+use Rattle.tierra_model.proofs.Commutes.{HasFront, put_after}
+use Rattle.tierra_model.proofs.EachOnce.{EachOnce}
+use Rattle.tierra_model.proofs.EventsKeep.{front-event, each_once-event, reaped-is_here}
 
 abbrev pub Each : {X : Type 0} → (X → Type 0) → List X → Type 0
 Each P [] = Unit {0}
@@ -60,7 +60,7 @@ each-one P (x ∷ xs) id h k = elim (eqb_tells x.id id) [
 ]
 
 -- one creature of a world of n cells, where errors and bred are at most e, and moved and ran at most m
-pub record Fine (n e m : ℕ) (c : Creature) : Type 0 where
+pub record InBounds (n e m : ℕ) (c : Creature) : Type 0 where
   pub own : IsBlock n c.own
   pub daughter : IfSome c.daughter (IsBlock n)
   pub ip : c.ip < n
@@ -70,12 +70,12 @@ pub record Fine (n e m : ℕ) (c : Creature) : Type 0 where
   pub ran : c.ran ≤ m
   pub bred : c.bred ≤ e
 
-pub record Core (n e m b : ℕ) (w : World) : Type 0 where
-  pub led : Led w
-  pub tidy : Tidy w
+pub record Population (n e m b : ℕ) (w : World) : Type 0 where
+  pub has_front : HasFront w
+  pub each_once : EachOnce w
   pub size : w.settings.soup_size ≡ n
   pub cells : length w.soup ≡ n
-  pub each : Each (Fine n e m) w.living
+  pub each : Each (InBounds n e m) w.living
   pub slicer : (id : ℕ) → times_in w.slicer id ≡ times_in (ids_of w.living) id
   pub order : Ordered 1 (ids_of w.living)
   pub zero : times_in (ids_of w.living) 0 ≡ 0
@@ -84,46 +84,46 @@ pub record Core (n e m b : ℕ) (w : World) : Type 0 where
   pub next_birth : w.next_birth ≤ b
 
 -- how much an event may raise a count of errors or of daughters, and the next birth number
-abbrev pub errs : Event → ℕ
-errs (event.Write at value) = 0
-errs event.Err = 1
-errs event.Good = 0
-errs event.GiveUp = 0
-errs (event.Mal at size) = 0
-errs (event.Reap place) = 0
-errs (event.Divide ran moved) = 1
+abbrev pub errors_of : Event → ℕ
+errors_of (event.Write at value) = 0
+errors_of event.Err = 1
+errors_of event.Good = 0
+errors_of event.GiveUp = 0
+errors_of (event.Mal at size) = 0
+errors_of (event.Reap place) = 0
+errors_of (event.Divide ran moved) = 1
 
-abbrev pub bears : Event → ℕ
-bears (event.Write at value) = 0
-bears event.Err = 0
-bears event.Good = 0
-bears event.GiveUp = 0
-bears (event.Mal at size) = 0
-bears (event.Reap place) = 0
-bears (event.Divide ran moved) = 1
+abbrev pub births_of : Event → ℕ
+births_of (event.Write at value) = 0
+births_of event.Err = 0
+births_of event.Good = 0
+births_of event.GiveUp = 0
+births_of (event.Mal at size) = 0
+births_of (event.Reap place) = 0
+births_of (event.Divide ran moved) = 1
 
-more_errors : (n e m k : ℕ) (xs : List Creature) → Each (Fine n e m) xs → Each (Fine n (e + k) m) xs
-more_errors n e m k xs h = each-map (Fine n e m) (Fine n (e + k) m) (λ x f.
+in_bounds-more_errors : (n e m k : ℕ) (xs : List Creature) → Each (InBounds n e m) xs → Each (InBounds n (e + k) m) xs
+in_bounds-more_errors n e m k xs h = each-map (InBounds n e m) (InBounds n (e + k) m) (λ x f.
     record { own = f.own; daughter = f.daughter; ip = f.ip; sp = f.sp; errors = omega (arith, f.errors); moved = f.moved; ran = f.ran; bred = omega (arith, f.bred) }) xs h
 
 length-with : (c : Creature) (xs : List Creature) → length (with_record c xs) ≡ length xs
 length-with c [] = refl
 length-with c (x ∷ xs) = ap (λ (n : ℕ). suc n) (length-with c xs)
 
-length_total : (xs : List Creature) → sum_of (λ _. 1) xs ≡ length xs
-length_total [] = refl
-length_total (x ∷ xs) = omega (arith, length_total xs)
+sum_of-ones : (xs : List Creature) → sum_of (λ _. 1) xs ≡ length xs
+sum_of-ones [] = refl
+sum_of-ones (x ∷ xs) = omega (arith, sum_of-ones xs)
 
 -- an event that marks the record alone
-core-mark : (v : Event) (n e m b : ℕ) (w : World) → Core n e m b w → Tidy (mark v w) → Led (mark v w) → Fine n (e + errs v) m (record_after v (front w)) → Core n (e + errs v) m b (mark v w)
-core-mark v n e m b w c t l f =
+population-put_after : (v : Event) (n e m b : ℕ) (w : World) → Population n e m b w → EachOnce (put_after v w) → HasFront (put_after v w) → InBounds n (e + errors_of v) m (record_after v (front w)) → Population n (e + errors_of v) m b (put_after v w)
+population-put_after v n e m b w c t l f =
     let d : Creature = record_after v (front w) in
     record {
-      led = l;
-      tidy = t;
+      has_front = l;
+      each_once = t;
       size = c.size;
       cells = c.cells;
-      each = each-with (Fine n (e + errs v) m) d w.living f (more_errors n e m (errs v) w.living c.each);
+      each = each-with (InBounds n (e + errors_of v) m) d w.living f (in_bounds-more_errors n e m (errors_of v) w.living c.each);
       slicer = λ id. c.slicer id ∙ sym (ap (λ (l : List ℕ). times_in l id) (ids_of-with d w.living));
       order = subst (Ordered 1) (sym (ids_of-with d w.living)) c.order;
       zero = ap (λ (l : List ℕ). times_in l 0) (ids_of-with d w.living) ∙ c.zero;
@@ -133,14 +133,14 @@ core-mark v n e m b w c t l f =
     }
 
 -- a record put in the place of the front's
-pub core-put : (d : Creature) (n e m b k : ℕ) (w : World) → Core n e m b w → Tidy (put d w) → Led (put d w) → Fine n e (m + k) d → Core n e (m + k) b (put d w)
-core-put d n e m b k w c t l f =
+pub population-put : (d : Creature) (n e m b k : ℕ) (w : World) → Population n e m b w → EachOnce (put d w) → HasFront (put d w) → InBounds n e (m + k) d → Population n e (m + k) b (put d w)
+population-put d n e m b k w c t l f =
     record {
-      led = l;
-      tidy = t;
+      has_front = l;
+      each_once = t;
       size = c.size;
       cells = c.cells;
-      each = each-with (Fine n e (m + k)) d w.living f (each-map (Fine n e m) (Fine n e (m + k)) (λ x g.
+      each = each-with (InBounds n e (m + k)) d w.living f (each-map (InBounds n e m) (InBounds n e (m + k)) (λ x g.
           record { own = g.own; daughter = g.daughter; ip = g.ip; sp = g.sp; errors = g.errors; moved = omega (arith, g.moved); ran = omega (arith, g.ran); bred = g.bred }) w.living c.each);
       slicer = λ id. c.slicer id ∙ sym (ap (λ (l : List ℕ). times_in l id) (ids_of-with d w.living));
       order = subst (Ordered 1) (sym (ids_of-with d w.living)) c.order;
@@ -150,17 +150,17 @@ core-put d n e m b k w c t l f =
       next_birth = c.next_birth;
     }
 
-pub front_fine : (n e m b : ℕ) (w : World) → Core n e m b w → Fine n e m (front w)
-front_fine n e m b w c = each-one (Fine n e m) w.living (first_of w.slicer) c.led.here c.each
+pub front-in_bounds : (n e m b : ℕ) (w : World) → Population n e m b w → InBounds n e m (front w)
+front-in_bounds n e m b w c = each-one (InBounds n e m) w.living (first_of w.slicer) c.has_front.here c.each
 
-pub weaken : (n e m b e' b' : ℕ) (w : World) → e ≤ e' → b ≤ b' → Core n e m b w → Core n e' m b' w
-weaken n e m b e' b' w h k c =
+pub population-weaker : (n e m b e' b' : ℕ) (w : World) → e ≤ e' → b ≤ b' → Population n e m b w → Population n e' m b' w
+population-weaker n e m b e' b' w h k c =
     record {
-      led = c.led;
-      tidy = c.tidy;
+      has_front = c.has_front;
+      each_once = c.each_once;
       size = c.size;
       cells = c.cells;
-      each = each-map (Fine n e m) (Fine n e' m) (λ x f. record { own = f.own; daughter = f.daughter; ip = f.ip; sp = f.sp; errors = omega (arith, f.errors); moved = f.moved; ran = f.ran; bred = omega (arith, f.bred) }) w.living c.each;
+      each = each-map (InBounds n e m) (InBounds n e' m) (λ x f. record { own = f.own; daughter = f.daughter; ip = f.ip; sp = f.sp; errors = omega (arith, f.errors); moved = f.moved; ran = f.ran; bred = omega (arith, f.bred) }) w.living c.each;
       slicer = c.slicer;
       order = c.order;
       zero = c.zero;
@@ -172,45 +172,45 @@ weaken n e m b e' b' w h k c =
 nonzero : (n : ℕ) → 0 < n → (n == 0) ≡ false
 nonzero n h = grind (arith, nat_tests)
 
-fine_born : (n e m id g : ℕ) (b : Block) → IsBlock n b → Fine n e m (newborn id b g)
-fine_born n e m id g b h =
+in_bounds-newborn : (n e m id g : ℕ) (b : Block) → IsBlock n b → InBounds n e m (newborn id b g)
+in_bounds-newborn n e m id g b h =
     record { own = h; daughter = tt; ip = omega (arith, h.0, h.2); sp = omega arith; errors = omega arith; moved = omega arith; ran = omega arith; bred = omega arith }
 
-core-divide : (n e m b ran moved : ℕ) (known : List Genotype) (w : World) (d : Option Block) → Core n e m b w → IfSome d (IsBlock n) → IsSome d
-    → Led (put (record_after (event.Divide ran moved) (front w)) (with_birth known d (front w).genotype w)) → Tidy (put (record_after (event.Divide ran moved) (front w)) (with_birth known d (front w).genotype w))
-    → Core n (e + 1) m (b + 1) (put (record_after (event.Divide ran moved) (front w)) (with_birth known d (front w).genotype w))
-core-divide n e m b ran moved known w None c h k l t = (let z : false ≡ true = k in cc)
-core-divide n e m b ran moved known w (Some x) c h k l t =
+population-divide : (n e m b ran moved : ℕ) (known : List Genotype) (w : World) (d : Option Block) → Population n e m b w → IfSome d (IsBlock n) → IsSome d
+    → HasFront (put (record_after (event.Divide ran moved) (front w)) (with_birth known d (front w).genotype w)) → EachOnce (put (record_after (event.Divide ran moved) (front w)) (with_birth known d (front w).genotype w))
+    → Population n (e + 1) m (b + 1) (put (record_after (event.Divide ran moved) (front w)) (with_birth known d (front w).genotype w))
+population-divide n e m b ran moved known w None c h k l t = (let z : false ≡ true = k in cc)
+population-divide n e m b ran moved known w (Some x) c h k l t =
     let g : ℕ = (with_individual known (slice_range w.soup x.at (x.at + x.size)) (Some (front w).genotype) (w.quanta + 1)).1 in
     let nb : Creature = newborn w.next_birth x g in
     let d : Creature = record_after (event.Divide ran moved) (front w) in
-    let f = front_fine n e m b w c in
+    let f = front-in_bounds n e m b w c in
     let ids : ids_of (with_record d (w.living ++ nb ∷ [])) ≡ ids_of w.living ++ w.next_birth ∷ [] = ids_of-with d (w.living ++ nb ∷ []) ∙ ids_of-append w.living (nb ∷ []) in
     let none : (w.next_birth == 0) ≡ false = nonzero w.next_birth (omega (arith, c.count)) in
     record {
-      led = l;
-      tidy = t;
+      has_front = l;
+      each_once = t;
       size = c.size;
       cells = c.cells;
-      each = each-with (Fine n (e + 1) m) d (w.living ++ nb ∷ []) (record { own = f.own; daughter = tt; ip = f.ip; sp = f.sp; errors = omega (arith, f.errors); moved = omega arith; ran = omega arith; bred = omega (arith, f.bred) })
-          (each-append (Fine n (e + 1) m) w.living (nb ∷ []) (more_errors n e m 1 w.living c.each) (fine_born n (e + 1) m w.next_birth g x h, tt));
+      each = each-with (InBounds n (e + 1) m) d (w.living ++ nb ∷ []) (record { own = f.own; daughter = tt; ip = f.ip; sp = f.sp; errors = omega (arith, f.errors); moved = omega arith; ran = omega arith; bred = omega (arith, f.bred) })
+          (each-append (InBounds n (e + 1) m) w.living (nb ∷ []) (in_bounds-more_errors n e m 1 w.living c.each) (in_bounds-newborn n (e + 1) m w.next_birth g x h, tt));
       slicer = λ id. times_in-append w.slicer (w.next_birth ∷ []) id ∙ ap (λ (q : ℕ). q + times_in (w.next_birth ∷ []) id) (c.slicer id)
           ∙ sym (ap (λ (y : List ℕ). times_in y id) ids ∙ times_in-append (ids_of w.living) (w.next_birth ∷ []) id);
-      order = subst (Ordered 1) (sym ids) (ordered-push 1 w.next_birth (ids_of w.living) (omega (arith, c.count)) c.tidy.fresh c.order);
+      order = subst (Ordered 1) (sym ids) (ordered-push 1 w.next_birth (ids_of w.living) (omega (arith, c.count)) c.each_once.fresh c.order);
       zero = ap (λ (y : List ℕ). times_in y 0) ids ∙ times_in-append (ids_of w.living) (w.next_birth ∷ []) 0 ∙ omega (arith, c.zero, ap one_if none);
       count = omega (arith, length-with d (w.living ++ nb ∷ []), length-append w.living (nb ∷ []), c.count);
       births = omega (arith, c.births);
       next_birth = omega (arith, c.next_birth);
     }
 
-pub core : (v : Event) (n e m b : ℕ) (w : World) → Core n e m b w → CanHappen w v → Core n (e + errs v) m (b + bears v) (apply_event w v)
+pub population-event : (v : Event) (n e m b : ℕ) (w : World) → Population n e m b w → CanHappen w v → Population n (e + errors_of v) m (b + births_of v) (apply_event w v)
 unfolding apply_event
-core (event.Write at value) n e m b w c k =
+population-event (event.Write at value) n e m b w c k =
     let v : Event = event.Write at value in
-    let l = leads w v c.led k in
-    weaken n e m b (e + 0) (b + 0) (apply_event w v) (omega arith) (omega arith) (record {
-      led = l.led;
-      tidy = tidy w v c.led c.tidy k;
+    let l = front-event w v c.has_front k in
+    population-weaker n e m b (e + 0) (b + 0) (apply_event w v) (omega arith) (omega arith) (record {
+      has_front = l.has_front;
+      each_once = each_once-event w v c.has_front c.each_once k;
       size = c.size;
       cells = length-set w.soup at value ∙ c.cells;
       each = c.each;
@@ -221,18 +221,18 @@ core (event.Write at value) n e m b w c k =
       births = c.births;
       next_birth = c.next_birth;
     })
-core event.Err n e m b w c k =
+population-event event.Err n e m b w c k =
     let v : Event = event.Err in
-    let l = leads w v c.led k in
-    let f = front_fine n e m b w c in
+    let l = front-event w v c.has_front k in
+    let f = front-in_bounds n e m b w c in
     let d : Creature = record_after v (front w) in
     record {
-      led = l.led;
-      tidy = tidy w v c.led c.tidy k;
+      has_front = l.has_front;
+      each_once = each_once-event w v c.has_front c.each_once k;
       size = c.size;
       cells = c.cells;
-      each = each-with (Fine n (e + 1) m) d w.living (record { own = f.own; daughter = f.daughter; ip = f.ip; sp = f.sp; errors = omega (arith, f.errors); moved = f.moved; ran = f.ran; bred = omega (arith, f.bred) })
-          (more_errors n e m 1 w.living c.each);
+      each = each-with (InBounds n (e + 1) m) d w.living (record { own = f.own; daughter = f.daughter; ip = f.ip; sp = f.sp; errors = omega (arith, f.errors); moved = f.moved; ran = f.ran; bred = omega (arith, f.bred) })
+          (in_bounds-more_errors n e m 1 w.living c.each);
       slicer = λ id. c.slicer id ∙ sym (ap (λ (x : List ℕ). times_in x id) (ids_of-with d w.living));
       order = subst (Ordered 1) (sym (ids_of-with d w.living)) c.order;
       zero = ap (λ (x : List ℕ). times_in x 0) (ids_of-with d w.living) ∙ c.zero;
@@ -240,11 +240,11 @@ core event.Err n e m b w c k =
       births = c.births;
       next_birth = omega (arith, c.next_birth);
     }
-core event.Good n e m b w c k =
+population-event event.Good n e m b w c k =
     let v : Event = event.Good in
-    weaken n e m b (e + 0) (b + 0) (apply_event w v) (omega arith) (omega arith) (record {
-      led = (leads w v c.led k).led;
-      tidy = tidy w v c.led c.tidy k;
+    population-weaker n e m b (e + 0) (b + 0) (apply_event w v) (omega arith) (omega arith) (record {
+      has_front = (front-event w v c.has_front k).has_front;
+      each_once = each_once-event w v c.has_front c.each_once k;
       size = c.size;
       cells = c.cells;
       each = c.each;
@@ -255,30 +255,30 @@ core event.Good n e m b w c k =
       births = c.births;
       next_birth = c.next_birth;
     })
-core event.GiveUp n e m b w c k =
+population-event event.GiveUp n e m b w c k =
     let v : Event = event.GiveUp in
-    let f = front_fine n e m b w c in
-    weaken n (e + 0) m b (e + 0) (b + 0) (apply_event w v) (omega arith) (omega arith)
-    (core-mark v n e m b w c (tidy w v c.led c.tidy k) (leads w v c.led k).led
+    let f = front-in_bounds n e m b w c in
+    population-weaker n (e + 0) m b (e + 0) (b + 0) (apply_event w v) (omega arith) (omega arith)
+    (population-put_after v n e m b w c (each_once-event w v c.has_front c.each_once k) (front-event w v c.has_front k).has_front
     (record { own = f.own; daughter = tt; ip = f.ip; sp = f.sp; errors = omega (arith, f.errors); moved = omega arith; ran = f.ran; bred = omega (arith, f.bred) }))
-core (event.Mal at size) n e m b w c k =
+population-event (event.Mal at size) n e m b w c k =
     let v : Event = event.Mal at size in
-    let f = front_fine n e m b w c in
-    weaken n (e + 0) m b (e + 0) (b + 0) (apply_event w v) (omega arith) (omega arith)
-    (core-mark v n e m b w c (tidy w v c.led c.tidy k) (leads w v c.led k).led
+    let f = front-in_bounds n e m b w c in
+    population-weaker n (e + 0) m b (e + 0) (b + 0) (apply_event w v) (omega arith) (omega arith)
+    (population-put_after v n e m b w c (each_once-event w v c.has_front c.each_once k) (front-event w v c.has_front k).has_front
     (record { own = f.own; daughter = subst (λ j. IsBlock j (record { at = at; size = size })) c.size k.1; ip = f.ip; sp = f.sp; errors = omega (arith, f.errors); moved = omega arith; ran = f.ran; bred = omega (arith, f.bred) }))
-core (event.Reap place) n e m b w c k =
+population-event (event.Reap place) n e m b w c k =
     let v : Event = event.Reap place in
     let id : ℕ = slice_index w.reaper place in
-    let here = victim_here w place c.tidy k.0 in
+    let here = reaped-is_here w place c.each_once k.0 in
     let one : length (without id w.living) + 1 ≡ length w.living =
-    omega (arith, sum_of-without (λ _. 1) w.living id here (c.tidy.once id), length_total w.living, length_total (without id w.living)) in
-    weaken n e m b (e + 0) (b + 0) (apply_event w v) (omega arith) (omega arith) (record {
-      led = (leads w v c.led k).led;
-      tidy = tidy w v c.led c.tidy k;
+    omega (arith, sum_of-without (λ _. 1) w.living id here (c.each_once.once id), sum_of-ones w.living, sum_of-ones (without id w.living)) in
+    population-weaker n e m b (e + 0) (b + 0) (apply_event w v) (omega arith) (omega arith) (record {
+      has_front = (front-event w v c.has_front k).has_front;
+      each_once = each_once-event w v c.has_front c.each_once k;
       size = c.size;
       cells = c.cells;
-      each = each-without (Fine n e m) id w.living c.each;
+      each = each-without (InBounds n e m) id w.living c.each;
       slicer = λ j. elim (eqb_tells j id) [
         | inl a ↦ subst (λ q. times_in (filter (λ x. not (x == id)) w.slicer) q ≡ times_in (ids_of (without id w.living)) q) (sym a.1)
             (times_in-filter_same w.slicer id ∙ sym (ap (λ (x : List ℕ). times_in x id) (ids_of-without id w.living) ∙ times_in-filter_same (ids_of w.living) id))
@@ -294,7 +294,7 @@ core (event.Reap place) n e m b w c k =
       births = c.births;
       next_birth = c.next_birth;
     })
-core (event.Divide ran moved) n e m b w c k =
+population-event (event.Divide ran moved) n e m b w c k =
     let v : Event = (event.Divide ran moved) in
-    let f = front_fine n e m b w c in
-    core-divide n e m b ran moved (genotypes_at_birth (front w) ran moved w.genotypes) w (front w).daughter c f.daughter k.0 (leads w v c.led k).led (tidy w v c.led c.tidy k)
+    let f = front-in_bounds n e m b w c in
+    population-divide n e m b ran moved (genotypes_at_birth (front w) ran moved w.genotypes) w (front w).daughter c f.daughter k.0 (front-event w v c.has_front k).has_front (each_once-event w v c.has_front c.each_once k)

@@ -29,6 +29,6 @@ no_move_down c errors (x ∷ y ∷ rest) h =
 
 pub yards_are_safe : YardsAreSafe
 yards_are_safe = (
-  (λ w k s j c h e. (let with_birth = s.numbers j c h in omega (arith, with_birth.1, s.next_birth, s.quanta, e))),
+  (λ w k s j c h e. (let born = s.numbers j c h in omega (arith, born.1, s.next_birth, s.quanta, e))),
   (λ c errors xs h. (no_move_up c errors xs h, no_move_down c errors xs h)),
 )
