@@ -1,7 +1,8 @@
--- A quantum in any place: who is reaped, when there is room, and where the background flips.
+-- A quantum on any machine: who is reaped, when there is room, and where the background flips.
 use Rattle.std.proofs.Common.{◌≡◌, ℕ, zero, suc, ◌+◌, ◌%◌, ◌<◌, ◌≤◌, Bool, true, false, List, [], ◌∷◌, refl, ap, subst, arith, inl, inr, ◌≢◌, length}
-use Rattle.std.specs.Prelude.{Some, None, Option, option_map, ◌&&◌, nat_lt, nat_le, slice_index}
-use Rattle.std.proofs.lemmas.Bool.Decides.{nat_tests, eqb_tells}
+use Rattle.std.specs.Prelude.{Some, None, Option, option_map, slice_index}
+use Rattle.std.proofs.lemmas.Bool.{and_parts, leb-true, ltb-true}
+use Rattle.std.proofs.lemmas.Bool.Decides.{eqb_tells}
 use Rattle.tierra_model.specs.declared.parameters.Settings.{Settings}
 use Rattle.tierra_model.specs.declared.events.Event.TheVariants as event
 use Rattle.tierra_model.specs.Draw.{is_due, back_flip}
@@ -13,12 +14,7 @@ use Rattle.tierra_model.specs.Room.{room_for}
 -- ---- blocks
 
 pub block_in : (at size q : ℕ) → is_in (record { at = at; size = size }) q ≡ true → (at ≤ q) × (q < at + size)
-block_in at size q e = go (nat_le at q) (nat_lt q (at + size)) refl refl e
-  where
-    go : (a b : Bool) → nat_le at q ≡ a → nat_lt q (at + size) ≡ b → (a && b) ≡ true → (at ≤ q) × (q < at + size)
-    go true true h k e = (grind (arith, nat_tests), grind (arith, nat_tests))
-    go true false h k e = cc
-    go false b h k e = cc
+block_in at size q e = let p = and_parts _ _ e in (leb-true at q p.0, ltb-true q (at + size) p.1)
 
 -- ---- who is reaped
 

@@ -1,4 +1,5 @@
--- What holds after any events that can happen: every state between the events of a finding has it.
+-- Between any two events of a list that can happen in a sound world, the world is within its quantum: blocks, numbers and
+-- counts are in their bounds, and the cells of a daughter block are codes.
 use Rattle.std.proofs.Common.{ℕ, suc, ◌+◌, ◌*◌, List, [], ◌∷◌, ◌++◌, arith, length}
 use Rattle.tierra_model.specs.declared.parameters.Settings.{Settings}
 use Rattle.tierra_model.specs.declared.events.Event.{Event}
@@ -13,13 +14,8 @@ use Rattle.tierra_model.proofs.Sound.{within-start}
 
 -- no event adds more than this
 adds-at_most : (v : Event) (e b z : ℕ) → Adds v e b z (e + 1) (b + 1) (z + 20100)
-adds-at_most (event.Write at value) e b z = record { errors = omega arith; next_birth = omega arith; size = omega arith }
 adds-at_most event.Err e b z = record { errors = omega arith; next_birth = omega arith; size = omega arith }
-adds-at_most event.Good e b z = record { errors = omega arith; next_birth = omega arith; size = omega arith }
-adds-at_most event.GiveUp e b z = record { errors = omega arith; next_birth = omega arith; size = omega arith }
-adds-at_most (event.Mal at size) e b z = record { errors = omega arith; next_birth = omega arith; size = omega arith }
-adds-at_most (event.Reap place) e b z = record { errors = omega arith; next_birth = omega arith; size = omega arith }
-adds-at_most (event.Divide ran moved) e b z = record { errors = omega arith; next_birth = omega arith; size = omega arith }
+adds-at_most _ e b z = record { errors = omega arith; next_birth = omega arith; size = omega arith }
 
 pub within-events : (s : Settings) (e m b z q : ℕ) (events : List Event) (w : World) → WithinQuantum s e m b z q w → CanAllHappen w events
     → WithinQuantum s (e + length events) m (b + length events) (z + 20100 * length events) q (after_events w events)
@@ -37,7 +33,7 @@ pub can-left : (w : World) (xs ys : List Event) → CanAllHappen w (xs ++ ys) �
 can-left w [] ys c = tt
 can-left w (v ∷ vs) ys c = (c.0, can-left (apply_event w v) vs ys c.1)
 
--- between the events of a finding, whose world was sound
+-- after xs and before ys
 pub between_events : (w : World) (xs ys : List Event) → IsSound w → CanAllHappen w (xs ++ ys)
     → WithinQuantum w.settings (count_limit w.quanta + length xs) (count_limit w.quanta) (count_limit w.quanta + length xs) (0 + 20100 * length xs) (w.quanta + 1) (after_events w xs)
 between_events w xs ys s c =

@@ -1,4 +1,4 @@
--- A record put into a world before an event, or its put_after put in after it: the same.
+-- It is the same to put a record into a world before an event, or to put in what the event leaves of it after the event.
 use Rattle.std.proofs.Common.{◌≡◌, ℕ, ◌+◌, ◌<◌, Bool, true, List, [], ◌∷◌, ◌++◌, refl, sym, ◌∙◌, ap, inl, inr, length}
 use Rattle.std.specs.Prelude.{Some, None, Option, unwrap_or, ◌==◌, slice_index, slice_range}
 use Rattle.std.proofs.lemmas.Bool.Decides.{eqb_tells}
@@ -91,18 +91,13 @@ with_birth-put known (Some b) mother c d v e =
 abbrev pub Commutes : World → Creature → Event → Type 0
 Commutes v c e = apply_event (put c v) e ≡ put (record_after e c) (apply_event v e)
 
--- what an event that marks the record alone does
+-- what an event does that changes the running record alone
 abbrev pub put_after : Event → World → World
 put_after e w = put (record_after e (front w)) w
 
 pub record_after-id : (e : Event) (c : Creature) → (record_after e c).id ≡ c.id
-record_after-id (event.Write at value) c = refl
 record_after-id event.Err c = refl
-record_after-id event.Good c = refl
-record_after-id event.GiveUp c = refl
-record_after-id (event.Mal at size) c = refl
-record_after-id (event.Reap place) c = refl
-record_after-id (event.Divide ran moved) c = refl
+record_after-id _ c = refl
 
 pub put_after-put : (e : Event) (v : World) (c : Creature) → HasFront v → c.id ≡ first_of v.slicer → put_after e (put c v) ≡ put (record_after e c) v
 put_after-put e v c l n =

@@ -1,4 +1,5 @@
--- What of a sound world every event keeps, and how it changes who owns a cell.
+-- Each creature is in the reaper list once, no number to come is taken, and each cell has one owner at most: as records are
+-- put in, and creatures come and go.
 use Rattle.std.proofs.Common.{◌≡◌, ℕ, ◌+◌, ◌<◌, ◌≤◌, true, List, [], ◌∷◌, ◌++◌, refl, sym, ◌∙◌, ap, subst, arith, inl, inr, length, length-append}
 use Rattle.std.specs.Prelude.{Some, None, Option, unwrap_or, ◌==◌, slice_index, slice_range}
 use Rattle.std.proofs.lemmas.Bool.Decides.{eqb_tells}
@@ -14,7 +15,7 @@ use Rattle.tierra_model.specs.Sound.{owners, owners_of}
 use Rattle.tierra_model.specs.Individuals.{with_individual, genotypes_at_birth}
 use Rattle.tierra_model.specs.Events.{apply_event, record_after, with_birth, with_death, with_creature}
 use Rattle.tierra_model.proofs.Living.{is_here, find-append, is_here-append}
-use Rattle.tierra_model.proofs.Owners.{sum_of-with, sum_of-without, sum_of-append, ids_of-with, ids_of-without, ids_of-append, times_in-append, times_in-filter_same, times_in-filter_other}
+use Rattle.tierra_model.proofs.Owners.{sum_of-with, sum_of-without, sum_of-append, ids_of-with, ids_of-without, ids_of-append, times_in-append, times_in-filter_same, times_in-filter_other, times_in-without}
 use Rattle.tierra_model.proofs.Commutes.{HasFront, front-id, put_after, record_after-id}
 
 pub record EachOnce (w : World) : Type 0 where
@@ -136,10 +137,7 @@ each_once-with_death w id t h =
         | inl e ↦ rw (e.1) (rw (times_in-filter_same (ids_of w.living) id) (omega arith))
         | inr e ↦ rw (times_in-filter_other (ids_of w.living) id k e.1) (t.once k)
       ]);
-      reaper = λ k. rw (ids_of-without id w.living) (elim (eqb_tells k id) [
-        | inl e ↦ rw (e.1) (times_in-filter_same w.reaper id ∙ sym (times_in-filter_same (ids_of w.living) id))
-        | inr e ↦ times_in-filter_other w.reaper id k e.1 ∙ t.reaper k ∙ sym (times_in-filter_other (ids_of w.living) id k e.1)
-      ]);
+      reaper = times_in-without id w.reaper w.living t.reaper;
       fresh = λ k f. rw (ids_of-without id w.living) (elim (eqb_tells k id) [
         | inl e ↦ rw (e.1) (times_in-filter_same (ids_of w.living) id)
         | inr e ↦ times_in-filter_other (ids_of w.living) id k e.1 ∙ t.fresh k f

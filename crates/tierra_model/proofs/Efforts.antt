@@ -1,4 +1,4 @@
--- The list of genotypes as the effort of a birth is noted.
+-- The list of genotypes, and what was saved, stay good as the effort of a birth is noted.
 use Rattle.std.proofs.Common.{◌≡◌, ℕ, zero, suc, ◌+◌, ◌<◌, ◌≤◌, Bool, true, false, cond, List, [], ◌∷◌, refl, sym, ap, subst, length}
 use Rattle.std.specs.Prelude.{Some, None, Option, IfSome, All, ◌==◌}
 use Rattle.std.specs.Str.{bytes_eq}

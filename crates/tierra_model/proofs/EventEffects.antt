@@ -52,12 +52,7 @@ set-below (x ∷ xs) (suc at) value (suc p) h k = set-below xs at value p (λ q.
 -- the cells stay codes
 pub codes-event : (w : World) (e : Event) → CanHappen w e → ((p : ℕ) → slice_index w.soup p < 32) → (p : ℕ) → slice_index (apply_event w e).soup p < 32
 codes-event w (event.Write at value) c h p = rw (soup-event w (event.Write at value)) (set-below w.soup at value p h c.1)
-codes-event w event.Err c h p = rw (soup-event w event.Err) (h p)
-codes-event w event.Good c h p = rw (soup-event w event.Good) (h p)
-codes-event w event.GiveUp c h p = rw (soup-event w event.GiveUp) (h p)
-codes-event w (event.Mal at size) c h p = rw (soup-event w (event.Mal at size)) (h p)
-codes-event w (event.Reap place) c h p = rw (soup-event w (event.Reap place)) (h p)
-codes-event w (event.Divide ran moved) c h p = rw (soup-event w (event.Divide ran moved)) (h p)
+codes-event w e c h p = rw (soup-event w e) (h p)
 
 -- ---- in a scene
 

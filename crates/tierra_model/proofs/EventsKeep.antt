@@ -1,4 +1,4 @@
--- What every event that can happen keeps of a world.
+-- Every event that can happen keeps the creature at the front, each creature once, and each cell with one owner at most.
 use Rattle.std.proofs.Common.{◌≡◌, ℕ, ◌+◌, ◌<◌, ◌≤◌, Bool, true, false, List, [], ◌∷◌, refl, sym, ◌∙◌, ap, arith, inl, inr, length}
 use Rattle.std.specs.Prelude.{None, Option, not, filter, unwrap_or, ◌==◌, nat_lt, slice_index}
 use Rattle.std.proofs.lemmas.Bool.Decides.{nat_tests, eqb_tells}
@@ -21,7 +21,7 @@ use Rattle.tierra_model.proofs.Commutes.{HasFront, front-put, front-id, has_fron
 use Rattle.tierra_model.proofs.Yards.{sum_of-error_move, sum_of-good_move, times_in-index}
 use Rattle.tierra_model.proofs.EachOnce.{EachOnce, each_once-put_after, each_once-with_birth, each_once-with_death, front-with_birth, owners-put_after, owners-divide}
 
--- the event leaves the same creature at the front, with its put_after
+-- the event leaves the same creature at the front, with the record after it
 pub record KeepsFront (w : World) (e : Event) : Type 0 where
   pub has_front : HasFront (apply_event w e)
   pub same : first_of (apply_event w e).slicer ≡ first_of w.slicer

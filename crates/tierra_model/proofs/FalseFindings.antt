@@ -17,7 +17,7 @@ use Rattle.tierra_model.specs.SceneRun.{SceneRun, scene_machine, run_start, read
 use Rattle.tierra_model.specs.Log.{touched}
 use Rattle.tierra_model.specs.Replay.{replay}
 use Rattle.tierra_model.specs.Findings.{finding_of, Finding, Stands, Agrees, CellsAgree, SameIfSome, FindingReplays}
-use Rattle.tierra_model.proofs.FirstDifference.{cells-agree}
+use Rattle.tierra_model.proofs.FirstDifference.{of_cells-agrees}
 use Rattle.tierra_model.proofs.LawOfFindings.{law}
 use Rattle.tierra_model.proofs.StartIsSound.{serial_is_sound}
 use Rattle.tierra_model.proofs.Examples.{four, hundred, two, is_setup}
@@ -48,7 +48,7 @@ record_needed claim =
     let f : Finding = finding_of (record (scene_of w) { front = record (front w) { ax = pos 5 } }) in
     let s : IsSound w = (serial_is_sound two 0 (is_setup two (lit≤ tt) refl) (lit≤ tt)).sound in
     let stands : Stands f = record { reads = refl; events = refl; after = refl; at_least_one = lit≤ tt; at_most_limit = lit≤ tt } in
-    let r = claim f w s stands (refl, refl, cells-agree f.reads.cells w refl, tt, tt) in
+    let r = claim f w s stands (refl, refl, of_cells-agrees f.reads.cells w refl, tt, tt) in
     eqb-false 9 26 refl (ap (λ (v : World). slice_index v.soup 0) r.quantum)
 
 abbrev WithoutCells : Finding → World → Type 0
@@ -84,7 +84,7 @@ free_list_needed claim =
     let f : Finding = finding_of (record (scene_of w) { free = record { at = 60; size = 40 } ∷ [] }) in
     let s : IsSound w = (serial_is_sound grows 0 (is_setup grows (lit≤ tt) refl) (lit≤ tt)).sound in
     let stands : Stands f = record { reads = refl; events = refl; after = refl; at_least_one = lit≤ tt; at_most_limit = lit≤ tt } in
-    let r = claim f w s stands (refl, refl, refl, cells-agree f.reads.cells w refl, tt) in
+    let r = claim f w s stands (refl, refl, refl, of_cells-agrees f.reads.cells w refl, tt) in
     eqb-false 60 7 refl (ap (λ (v : World). (unwrap_or (one_of v.living 1).daughter no_block).at) r.quantum)
 
 abbrev WithoutYard : Finding → World → Type 0
@@ -104,7 +104,7 @@ yard_needed claim =
     let f : Finding = finding_of (record (scene_of w) { yard = take 2 (yard w) }) in
     let s : IsSound w = (serial_is_sound disturbed 0 (is_setup disturbed (lit≤ tt) refl) (lit≤ tt)).sound in
     let stands : Stands f = record { reads = refl; events = refl; after = refl; at_least_one = lit≤ tt; at_most_limit = lit≤ tt } in
-    let r = claim f w s stands (refl, refl, refl, cells-agree f.reads.cells w refl, tt) in
+    let r = claim f w s stands (refl, refl, refl, of_cells-agrees f.reads.cells w refl, tt) in
     eqb-false 1 2 refl (ap (λ (v : World). v.deaths) r.quantum)
 
 abbrev WithoutNumber : Finding → World → Type 0
@@ -118,7 +118,7 @@ number_needed claim =
     let f : Finding = finding_of (record (scene_of w) { quanta = 1 }) in
     let s : IsSound w = (serial_is_sound four 0 (is_setup four (lit≤ tt) refl) (lit≤ tt)).sound in
     let stands : Stands f = record { reads = refl; events = refl; after = refl; at_least_one = lit≤ tt; at_most_limit = lit≤ tt } in
-    let agrees : Agrees f.reads f.before w = record { front = refl; cells = cells-agree f.reads.cells w refl; free = tt; yard = refl } in
+    let agrees : Agrees f.reads f.before w = record { front = refl; cells = of_cells-agrees f.reads.cells w refl; free = tt; yard = refl } in
     let r = claim f w s stands (refl, agrees) in
     eqb-false 2 0 refl (ap (λ (v : World). v.deaths) r.quantum)
 
@@ -133,7 +133,7 @@ settings_needed claim =
     let f : Finding = finding_of (record (scene_of w) { settings = record hundred { slice_size = 1; slice = (lit≤ tt, lit≤ tt) } }) in
     let s : IsSound w = (serial_is_sound two 0 (is_setup two (lit≤ tt) refl) (lit≤ tt)).sound in
     let stands : Stands f = record { reads = refl; events = refl; after = refl; at_least_one = lit≤ tt; at_most_limit = lit≤ tt } in
-    let agrees : Agrees f.reads f.before w = record { front = refl; cells = cells-agree f.reads.cells w refl; free = tt; yard = tt } in
+    let agrees : Agrees f.reads f.before w = record { front = refl; cells = of_cells-agrees f.reads.cells w refl; free = tt; yard = tt } in
     let r = claim f w s stands (refl, agrees) in
     eqb-false 9 26 refl (ap (λ (v : World). slice_index v.soup 0) r.quantum)
 

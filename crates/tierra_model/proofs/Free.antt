@@ -1,4 +1,4 @@
--- Free lists, and where a block fits.
+-- The free list has the free cells, and where a block fits depends on them alone.
 use Rattle.std.proofs.Common.{◌≡◌, ℕ, zero, suc, ◌+◌, ◌-◌, ◌*◌, ◌<◌, ◌≤◌, Bool, true, false, List, [], refl, ◌∙◌, ap, arith, inl, inr}
 use Rattle.std.specs.Prelude.{Some, None, Option, ◌==◌, ◌||◌, ◌&&◌, nat_lt, nat_le}
 use Rattle.std.proofs.lemmas.Bool.Decides.{nat_tests, eqb_tells}

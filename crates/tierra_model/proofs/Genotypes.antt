@@ -1,4 +1,4 @@
--- The list of genotypes as one more individual is counted.
+-- The list of genotypes stays a good one as one more individual is counted.
 use Rattle.std.proofs.Common.{◌≡◌, ℕ, zero, suc, ◌+◌, ◌<◌, ◌≤◌, Bool, true, false, List, [], ◌∷◌, ◌++◌, refl, sym, ◌∙◌, ap, subst, arith, ◌≢◌, length, length-append}
 use Rattle.std.specs.Prelude.{Some, None, Option, IfSome, All, option_map, if◌then◌else◌}
 use Rattle.std.specs.Str.{bytes_eq}

@@ -1,6 +1,6 @@
 -- A quantum keeps the codes and parents of genotypes and what was saved, and what it saves is of its own number.
-use Rattle.std.proofs.Common.{◌≡◌, ℕ, zero, suc, ◌+◌, ◌*◌, ◌/◌, ◌<◌, ◌≤◌, Bool, true, false, List, [], ◌∷◌, ◌++◌, refl, sym, ◌∙◌, ap, arith, length, length-append}
-use Rattle.std.specs.Prelude.{Some, None, Option, All, ◌==◌, if◌then◌else◌, slice_index, slice_range}
+use Rattle.std.proofs.Common.{◌≡◌, ℕ, zero, suc, ◌+◌, ◌<◌, ◌≤◌, Bool, true, false, List, [], ◌∷◌, ◌++◌, refl, sym, ◌∙◌, ap, arith, length, length-append}
+use Rattle.std.specs.Prelude.{Some, None, Option, All, ◌==◌, if◌then◌else◌, slice_range}
 use Rattle.std.proofs.lemmas.List.Elements.{All-nil, All-cons, All-append}
 use Rattle.tierra_model.specs.declared.parameters.Settings.{Settings}
 use Rattle.tierra_model.specs.declared.creatures.Block.{Block}
@@ -8,15 +8,8 @@ use Rattle.tierra_model.specs.declared.creatures.Creature.{Creature}
 use Rattle.tierra_model.specs.declared.creatures.Effort.{Effort}
 use Rattle.tierra_model.specs.declared.events.Event.{Event}
 use Rattle.tierra_model.specs.declared.events.Event.TheVariants as event
-use Rattle.tierra_model.specs.declared.events.Act.{Act}
-use Rattle.tierra_model.specs.declared.events.Act.TheVariants as act
-use Rattle.tierra_model.specs.Look.{Look, Answer, LookAt}
-use Rattle.tierra_model.specs.Draw.{word, back_flip}
-use Rattle.tierra_model.specs.Queue.{number_of_others}
-use Rattle.tierra_model.specs.Quantum.{world_machine, walk, give_up, take_block, victim, reap_at, reap, make_room, perform, instruction, instructions, flip, reap_times, disturb, is_disturbed, run}
-use Rattle.tierra_model.specs.Step.{step, Outcome, flip_bit}
+use Rattle.tierra_model.specs.Quantum.{world_machine, run}
 use Rattle.tierra_model.specs.World.{World, Genotype, Saving, front, put, genotype_at}
-use Rattle.tierra_model.specs.Room.{room_for}
 use Rattle.tierra_model.specs.Individuals.{with_individual, genotype_number, with_one_more, with_effort_of, genotypes_at_birth}
 use Rattle.tierra_model.specs.Events.{apply_event, record_after, with_birth}
 use Rattle.std.proofs.lemmas.List.{append-nil, append_assoc}

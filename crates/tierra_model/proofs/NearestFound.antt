@@ -1,6 +1,7 @@
 -- A search finds the matching candidate of the least distance.
 use Rattle.std.proofs.Common.{◌≡◌, ℕ, zero, suc, ◌+◌, ◌%◌, ◌<◌, ◌≤◌, Bool, true, false, cond, List, refl, sym, ap, subst, arith, inl, inr, length}
 use Rattle.std.specs.Prelude.{Some, None, Option, find, nat_lt, ◌&&◌}
+use Rattle.std.proofs.lemmas.Bool.{and_parts}
 use Rattle.std.proofs.lemmas.Bool.Decides.{nat_tests, eqb_tells}
 use Rattle.tierra_model.specs.declared.searching.Way.{Way}
 use Rattle.tierra_model.specs.declared.searching.Way.TheVariants.{Outward, Forward, Backward}
@@ -26,13 +27,13 @@ module _ (hit : Side → ℕ → Bool) (cand : Side → ℕ → ℕ) where
   none_at d e f OnForward = e
   none_at d e f OnBackward = f
 
-  before_ahead : (d : ℕ) (r : Side) (b : ℕ) → IsBefore r b OnForward d → d ≤ b → hit r b ≡ false
-  before_ahead d OnForward b i l = absurd (omega arith)
-  before_ahead d OnBackward b i l = absurd (omega arith)
+  before_forward : (d : ℕ) (r : Side) (b : ℕ) → IsBefore r b OnForward d → d ≤ b → hit r b ≡ false
+  before_forward d OnForward b i l = absurd (omega arith)
+  before_forward d OnBackward b i l = absurd (omega arith)
 
-  before_behind : (d : ℕ) → hit OnForward d ≡ false → (r : Side) (b : ℕ) → IsBefore r b OnBackward d → d ≤ b → hit r b ≡ false
-  before_behind d e OnForward b i l = subst (λ c. hit OnForward c ≡ false) (omega arith) e
-  before_behind d e OnBackward b i l = absurd (omega arith)
+  before_backward : (d : ℕ) → hit OnForward d ≡ false → (r : Side) (b : ℕ) → IsBefore r b OnBackward d → d ≤ b → hit r b ≡ false
+  before_backward d e OnForward b i l = subst (λ c. hit OnForward c ≡ false) (omega arith) e
+  before_backward d e OnBackward b i l = absurd (omega arith)
 
   picks : (k d : ℕ) → Picks k d (pick k d)
   picks zero d = λ s c h l. absurd (omega arith)
@@ -40,8 +41,8 @@ module _ (hit : Side → ℕ → Bool) (cand : Side → ℕ → ℕ) where
     where
       go : (a b : Bool) → hit OnForward d ≡ a → hit OnBackward d ≡ b → (o : Option ℕ) → Picks k (d + 1) o
           → Picks (suc k) d (cond a (Some (cand OnForward d)) (cond b (Some (cand OnBackward d)) o))
-      go true b e f o h = (OnForward, d, omega arith, omega arith, e, refl, λ r c i l. before_ahead d r c i l)
-      go false true e f o h = (OnBackward, d, omega arith, omega arith, f, refl, λ r c i l. before_behind d e r c i l)
+      go true b e f o h = (OnForward, d, omega arith, omega arith, e, refl, λ r c i l. before_forward d r c i l)
+      go false true e f o h = (OnBackward, d, omega arith, omega arith, f, refl, λ r c i l. before_backward d e r c i l)
       go false false e f None h = λ s c l u. elim (eqb_tells d c) [
         | inl q ↦ subst (λ j. hit s j ≡ false) q.1 (none_at d e f s)
         | inr q ↦ h s c (let n = q.1 in grind arith) (omega arith)
@@ -79,11 +80,6 @@ find-pick n cells ip vs Backward (suc k) d =
     let b : ℕ = candidate n ip (length vs) OnBackward d in
     ap (λ (o : Option ℕ). cond (is_complement n cells vs b) (Some b) o) (find-pick n cells ip vs Backward k (d + 1))
 
-both : (a b : Bool) → (a && b) ≡ true → (a ≡ true) × (b ≡ true)
-both true true e = (refl, refl)
-both true false e = cc
-both false b e = cc
-
 never : (a b : Bool) → (a && b) ≡ false → a ≡ true → b ≡ true → ⊥
 never true true e h k = cc
 never true false e h k = cc
@@ -105,7 +101,7 @@ nearest-found_by n cells ip way limit min = go (nat_lt (length vs) min) refl
     found_is : (o : Option ℕ) → min ≤ length vs → Picks hit cand limit 1 o → IsFound n cells ip way limit min (found_at n (length vs) o)
     found_is None l h = (l, λ s d m. never (is_allowed way s) (is_complement n cells vs (cand s d)) (h s d m.1 (omega (arith, m.2))) m.0 m.3)
     found_is (Some p) l h =
-        let is = both (is_allowed way h.0) (is_complement n cells vs (cand h.0 h.1)) h.4 in (
+        let is = and_parts (is_allowed way h.0) (is_complement n cells vs (cand h.0 h.1)) h.4 in (
           l,
           (
             h.0,

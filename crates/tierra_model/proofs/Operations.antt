@@ -15,7 +15,7 @@ use Rattle.tierra_model.specs.Quantum.{Machine, walk, give_up, take_block, victi
 use Rattle.tierra_model.specs.Step.{step, Outcome, flip_bit}
 use Rattle.tierra_model.specs.Room.{room_for}
 
--- every operation front-event from a state to one that it is related to
+-- every operation leads from a state to one that it is related to
 pub record EachOperation {S : Type 0} (P : Machine S) (R : S → S → Type 0) : Type 0 where
   pub none : (x : S) → R x x
   pub next : (x y z : S) → R x y → R y z → R x z

@@ -1,7 +1,7 @@
 -- How many blocks have a cell, as records and creatures come and go.
-use Rattle.std.proofs.Common.{◌≡◌, ℕ, ◌+◌, ◌<◌, ◌≤◌, Bool, true, false, List, [], ◌∷◌, ◌++◌, refl, ap, arith}
+use Rattle.std.proofs.Common.{◌≡◌, ℕ, ◌+◌, ◌<◌, ◌≤◌, Bool, true, false, List, [], ◌∷◌, ◌++◌, refl, sym, ◌∙◌, ap, arith, inl, inr}
 use Rattle.std.specs.Prelude.{filter, not, ◌==◌, ◌||◌, nat_lt}
-use Rattle.std.proofs.lemmas.Bool.Decides.{nat_tests}
+use Rattle.std.proofs.lemmas.Bool.Decides.{nat_tests, eqb_tells}
 use Rattle.tierra_model.specs.declared.creatures.Creature.{Creature}
 use Rattle.tierra_model.specs.Counting.{times_in, sum_of, one_if}
 use Rattle.tierra_model.specs.Blocks.{is_in, is_in_daughter}
@@ -69,6 +69,14 @@ times_in-append (x ∷ xs) ys id = grind (arith, times_in-append xs ys id)
 pub ids_of-append : (xs ys : List Creature) → ids_of (xs ++ ys) ≡ ids_of xs ++ ids_of ys
 ids_of-append [] ys = refl
 ids_of-append (x ∷ xs) ys = ap (λ (l : List ℕ). x.id ∷ l) (ids_of-append xs ys)
+
+-- a number is taken out of a list that holds the living, and its creature out of the living
+pub times_in-without : (id : ℕ) (ids : List ℕ) (living : List Creature) → ((k : ℕ) → times_in ids k ≡ times_in (ids_of living) k)
+    → (k : ℕ) → times_in (filter (λ x. not (x == id)) ids) k ≡ times_in (ids_of (without id living)) k
+times_in-without id ids living h k = rw (ids_of-without id living) (elim (eqb_tells k id) [
+  | inl e ↦ rw (e.1) (times_in-filter_same ids id ∙ sym (times_in-filter_same (ids_of living) id))
+  | inr e ↦ times_in-filter_other ids id k e.1 ∙ h k ∙ sym (times_in-filter_other (ids_of living) id k e.1)
+])
 
 pub is_here-times : (living : List Creature) (id : ℕ) → 0 < times_in (ids_of living) id → is_here living id ≡ true
 is_here-times [] id h = absurd (omega arith)

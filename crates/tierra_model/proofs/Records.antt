@@ -21,7 +21,7 @@ use Rattle.tierra_model.specs.Step.{mal_act, mal_request, may_divide, step, exec
 use Rattle.tierra_model.specs.World.{World}
 use Rattle.tierra_model.specs.declared.creatures.Block.{Block}
 use Rattle.std.proofs.lemmas.Nat.{xor_lt, pow_below}
-use Rattle.std.proofs.lemmas.Bool.Decides.{nat_tests}
+use Rattle.std.proofs.lemmas.Bool.{and_parts, leb-true}
 use Rattle.tierra_model.proofs.Shares.{Shares}
 
 -- P holds of each answer that the looks may lead to, where each cell holds a number below 32
@@ -90,17 +90,9 @@ mal_can : (s : Settings) (d : Creature) (size : ℕ) (z : ℤ) → CanDo s d (ma
 mal_can s d size (negsuc k) = tt
 mal_can s d size (pos k) = go (nat_le s.min_cell k && nat_le k (min s.max_cell (s.mal_mult * size))) refl
   where
-    both : (a b : Bool) → (a && b) ≡ true → (a ≡ true) × (b ≡ true)
-    both true true e = (refl, refl)
-    both true false e = cc
-    both false b e = cc
-
-    le_of : (a b : ℕ) → nat_le a b ≡ true → a ≤ b
-    le_of a b e = grind (arith, nat_tests)
-
     go : (b : Bool) → (nat_le s.min_cell k && nat_le k (min s.max_cell (s.mal_mult * size))) ≡ b → CanDo s d (mal_act (cond b (Some k) None))
-    go true e = let h = both (nat_le s.min_cell k) (nat_le k (min s.max_cell (s.mal_mult * size))) e in
-        (omega (arith, le_of s.min_cell k h.0, s.cells), omega (arith, le_of k (min s.max_cell (s.mal_mult * size)) h.1, s.cells))
+    go true e = let h = and_parts (nat_le s.min_cell k) (nat_le k (min s.max_cell (s.mal_mult * size))) e in
+        (omega (arith, leb-true s.min_cell k h.0, s.cells), omega (arith, leb-true k (min s.max_cell (s.mal_mult * size)) h.1, s.cells))
     go false e = tt
 
 divide_can : (s : Settings) (c : Creature) → 1 ≤ c.ran → CanDo s c (if may_divide s c.daughter c.moved then act.Divide else act.Erred)

@@ -1,4 +1,4 @@
--- The saved genotypes as one more individual is counted.
+-- The saved genotypes stay those whose total reached save_at, as one more individual is counted.
 use Rattle.std.proofs.Common.{◌≡◌, ℕ, zero, suc, ◌+◌, ◌^◌, ◌<◌, ◌≤◌, Bool, List, [], ◌∷◌, ◌++◌, refl, sym, ◌∙◌, ap, subst, arith, inl, inr, ◌≢◌, length}
 use Rattle.std.specs.Prelude.{All, ◌==◌, if◌then◌else◌, nat_le}
 use Rattle.std.proofs.lemmas.Bool.Decides.{nat_tests, eqb_tells}

@@ -94,18 +94,7 @@ pub cells-event : (x : SceneRun) (e : Event) (start : List ℕ) (v : World) → 
 cells-event x (event.Write at value) start v m =
     let e : Event = event.Write at value in
     cells-written x at value start v.soup (apply_event v e).soup (soup-event v e) (soup-in_scene x.newborns x.now e) m
-cells-event x event.Err start v m = cells-kept x event.Err start v.soup _ (soup-event v event.Err) (soup-in_scene x.newborns x.now event.Err) (λ p. refl) m
-cells-event x event.Good start v m = cells-kept x event.Good start v.soup _ (soup-event v event.Good) (soup-in_scene x.newborns x.now event.Good) (λ p. refl) m
-cells-event x event.GiveUp start v m = cells-kept x event.GiveUp start v.soup _ (soup-event v event.GiveUp) (soup-in_scene x.newborns x.now event.GiveUp) (λ p. refl) m
-cells-event x (event.Mal at size) start v m =
-    let e : Event = event.Mal at size in
-    cells-kept x e start v.soup _ (soup-event v e) (soup-in_scene x.newborns x.now e) (λ p. refl) m
-cells-event x (event.Reap place) start v m =
-    let e : Event = event.Reap place in
-    cells-kept x e start v.soup _ (soup-event v e) (soup-in_scene x.newborns x.now e) (λ p. refl) m
-cells-event x (event.Divide ran moved) start v m =
-    let e : Event = event.Divide ran moved in
-    cells-kept x e start v.soup _ (soup-event v e) (soup-in_scene x.newborns x.now e) (λ p. refl) m
+cells-event x e start v m = cells-kept x e start v.soup (apply_event v e).soup (soup-event v e) (soup-in_scene x.newborns x.now e) (λ p. refl) m
 
 -- ---- a look
 

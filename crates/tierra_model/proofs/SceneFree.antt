@@ -60,12 +60,7 @@ abbrev pub IsShown : Scene → World → Event → Type 0
 IsShown s v (event.Reap place) =
     ((slice_index_or s.yard place no_standing).own ≡ (one_of v.living (slice_index v.reaper place)).own)
     × ((slice_index_or s.yard place no_standing).daughter ≡ (one_of v.living (slice_index v.reaper place)).daughter)
-IsShown s v (event.Write at value) = Unit {0}
-IsShown s v event.Err = Unit {0}
-IsShown s v event.Good = Unit {0}
-IsShown s v event.GiveUp = Unit {0}
-IsShown s v (event.Mal at size) = Unit {0}
-IsShown s v (event.Divide ran moved) = Unit {0}
+IsShown s v _ = Unit {0}
 
 pub free-event : (k : ℕ) (s : Scene) (v : World) (e : Event) → HasFront v → EachOnce v → CanHappen v e → Shares (front v) s.front → IsShown s v e
     → FreeAlike s.settings.soup_size s.free v → FreeAlike s.settings.soup_size (apply_in_scene k s e).free (apply_event v e)

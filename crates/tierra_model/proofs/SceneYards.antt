@@ -27,7 +27,7 @@ use Rattle.tierra_model.proofs.EventEffects.{shares-event}
 abbrev pub YardAlike : ℕ → List Standing → World → Type 0
 YardAlike n standings v = standings ≡ map (stands_as n v.living) v.reaper
 
--- the standing of the put_after
+-- the record after an event that changes it alone
 yard-put_after : (n : ℕ) (e : Event) (c : Creature) (standings : List Standing) (v : World) → HasFront v → Shares (front v) c → c.id ≡ first_of v.slicer
     → c.id < n → c.id < 2 ^ 63 → YardAlike n standings v
     → with_standing (record_after e c) standings ≡ map (stands_as n (put_after e v).living) v.reaper

@@ -1,4 +1,4 @@
--- What a record shares with that of the creature at the front while a quantum runs.
+-- What the running record shares, while a quantum runs, with the record that the world has at its front.
 use Rattle.std.proofs.Common.{◌≡◌}
 use Rattle.tierra_model.specs.declared.creatures.Creature.{Creature}
 use Rattle.tierra_model.specs.Replay.{RecordFits}

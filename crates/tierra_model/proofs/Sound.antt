@@ -1,4 +1,4 @@
--- Sound worlds stay sound.
+-- A sound world stays sound: it is within the next quantum, and is sound when that ends.
 use Rattle.std.proofs.Common.{◌≡◌, ℕ, ◌+◌, ◌*◌, ◌^◌, ◌<◌, ◌≤◌, Bool, true, false, List, [], ◌∷◌, refl, sym, ◌∙◌, ap, subst, arith, inl, inr, ◌⊎◌, ◌≢◌, length}
 use Rattle.std.specs.Prelude.{All, min, max, ◌/◌, ◌==◌, if◌then◌else◌, nat_lt, nat_le}
 use Rattle.std.proofs.lemmas.Bool.Decides.{nat_tests, eqb_tells}
@@ -18,7 +18,8 @@ use Rattle.tierra_model.proofs.Owners.{is_here-times, times_in-append}
 use Rattle.tierra_model.proofs.Commutes.{HasFront}
 use Rattle.tierra_model.proofs.Yards.{times_in-index}
 use Rattle.tierra_model.proofs.EachOnce.{EachOnce}
-use Rattle.tierra_model.proofs.Population.{Each, InBounds}
+use Rattle.tierra_model.proofs.Population.{InBounds}
+use Rattle.tierra_model.proofs.Each.{each_from_all, all_from_each}
 use Rattle.tierra_model.proofs.Genotypes.{genotype_at-past}
 use Rattle.tierra_model.proofs.WithinQuantum.{GenotypeBelow, WithinQuantum}
 use Rattle.tierra_model.proofs.WithinRun.{within-run}
@@ -88,14 +89,6 @@ sound-id_below w id s h = go (nat_lt id w.next_birth) refl
     go false e = (let l : w.next_birth ≤ id = grind (arith, nat_tests) in let z = unborn w.next_birth w.living s.numbers id (inr l) in absurd (omega arith))
 
 -- ---- a sound world when a quantum begins
-
-each_from_all : {X : Type 0} (P : X → Type 0) (xs : List X) → All P xs → Each P xs
-each_from_all P [] h = tt
-each_from_all P (x ∷ xs) h = (All-head P x xs h, each_from_all P xs (All-tail P x xs h))
-
-pub all_from_each : {X : Type 0} (P : X → Type 0) (xs : List X) → Each P xs → All P xs
-all_from_each P [] h = All-nil P
-all_from_each P (x ∷ xs) h = All-cons P x xs h.0 (all_from_each P xs h.1)
 
 abbrev By : ℕ → Saving → Type 0
 By q s = s.quantum ≤ q

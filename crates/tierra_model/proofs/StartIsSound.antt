@@ -22,11 +22,12 @@ use Rattle.tierra_model.specs.Serial.{overwrite, empty_world, with_inocula, star
 use Rattle.tierra_model.proofs.Owners.{ids_of-append, times_in-append, sum_of-append}
 use Rattle.tierra_model.proofs.BirthOrder.{ordered-push}
 use Rattle.tierra_model.proofs.EachOnce.{each_once-with_creature}
-use Rattle.tierra_model.proofs.Population.{Each, InBounds, each-map, each-append}
+use Rattle.tierra_model.proofs.Population.{InBounds}
+use Rattle.tierra_model.proofs.Each.{Each, all_from_each, each-map, each-append}
 use Rattle.tierra_model.proofs.Genotypes.{Listed, Counts, with_individual-listed}
 use Rattle.tierra_model.proofs.Savings.{Saves, saves-with_individual}
 use Rattle.tierra_model.proofs.WithinQuantum.{IsCell, GenotypeBelow}
-use Rattle.tierra_model.proofs.Sound.{all_from_each, sizes_below, all_born, quantum_is_sound}
+use Rattle.tierra_model.proofs.Sound.{sizes_below, all_born, quantum_is_sound}
 use Rattle.tierra_model.proofs.SumOfSizes.{Lies, sizes_fit}
 
 -- k creatures are in the world, whose genotypes weigh z at the most, and those of the list are still to come

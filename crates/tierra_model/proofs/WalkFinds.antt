@@ -1,4 +1,4 @@
--- The walk finds what the least candidate is.
+-- A search that walks from cell to cell finds the first of the candidates that match.
 use Rattle.std.proofs.Common.{◌≡◌, ℕ, zero, suc, ◌+◌, ◌%◌, Bool, true, false, cond, List, [], ◌∷◌, refl, ◌∙◌, ap, length}
 use Rattle.std.specs.Prelude.{nat_lt, if◌then◌else◌, ◌==◌, ◌&&◌, Some, find}
 use Rattle.tierra_model.specs.declared.searching.Way.{Way}

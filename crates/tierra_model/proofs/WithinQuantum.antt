@@ -1,6 +1,6 @@
--- A world while a quantum runs: what each event keeps, and what it may add to the counts.
+-- A world within a quantum: its population, codes, genotypes and savings are in bounds that each event raises a little.
 use Rattle.std.proofs.Common.{◌≡◌, ℕ, ◌+◌, ◌-◌, ◌*◌, ◌<◌, ◌≤◌, true, false, List, [], ◌∷◌, ◌++◌, sym, ◌∙◌, subst, arith, length, drop}
-use Rattle.std.specs.Prelude.{Some, None, Option, IfSome, IsSome, All, slice_index, slice_range}
+use Rattle.std.specs.Prelude.{Some, None, Option, IfSome, IsSome, All, slice_index, slice_range, slice_set}
 use Rattle.std.proofs.lemmas.List.{length-take, length-drop}
 use Rattle.std.proofs.lemmas.List.Elements.{All-set, All-take, All-drop}
 use Rattle.tierra_model.specs.declared.parameters.Settings.{Settings}
@@ -20,7 +20,9 @@ use Rattle.tierra_model.specs.Events.{apply_event, record_after, with_birth}
 use Rattle.tierra_model.specs.Replay.{CanHappen}
 use Rattle.tierra_model.proofs.Shares.{Shares}
 use Rattle.tierra_model.proofs.Commutes.{HasFront, front-id, has_front-put}
-use Rattle.tierra_model.proofs.Population.{Each, Population, population-event, population-put, population-weaker, front-in_bounds, each-map, each-append, each-with, each-without, each-one, errors_of, births_of}
+use Rattle.tierra_model.proofs.Each.{Each, each-map, each-append, each-with, each-without, each-one}
+use Rattle.tierra_model.proofs.Population.{Population, population-event, population-put, front-in_bounds, errors_of}
+use Rattle.tierra_model.specs.SceneRun.{births_of}
 use Rattle.tierra_model.proofs.EachOnce.{EachOnce, owners-put}
 use Rattle.tierra_model.proofs.Owners.{ids_of-with}
 use Rattle.tierra_model.proofs.Genotypes.{Listed, Counts, with_individual-listed, totals-weaker}
@@ -75,11 +77,6 @@ pub record Adds (v : Event) (e b z e' b' z' : ℕ) : Type 0 where
   pub next_birth : b + births_of v ≤ b'
   pub size : z + 20100 * births_of v ≤ z'
 
-within-population : (v : Event) (s : Settings) (e m b z q e' b' z' : ℕ) (w : World) → WithinQuantum s e m b z q w → CanHappen w v → Adds v e b z e' b' z'
-    → Population s.soup_size e' m b' (apply_event w v)
-within-population v s e m b z q e' b' z' w d c a =
-    population-weaker s.soup_size (e + errors_of v) m (b + births_of v) e' b' (apply_event w v) a.errors a.next_birth (population-event v s.soup_size e m b w d.population c)
-
 -- the daughter block becomes a creature
 within-divide : (s : Settings) (e m b z q e' b' z' ran moved : ℕ) (w : World) (o : Option Block) → WithinQuantum s e m b z q w → IfSome o (IsBlock s.soup_size) → IsSome o
     → 1 ≤ ran → b + 1 ≤ b' → z + 20100 ≤ z'
@@ -119,79 +116,51 @@ within-divide s e m b z q e' b' z' ran moved w (Some x) d k h r1 b1 z1 c =
           (saves-weaker q (z + (length code + 100)) z' s.save_at gs (savings_after s.save_at gs j q w.saved) (omega arith) saves));
     }
 
+-- an event that leaves the genotypes and what was saved
+within-kept : (soup : List ℕ) (living : List Creature) (slicer reaper : List ℕ) (deaths : ℕ) (v : Event) (s : Settings) (e m b z q e' b' z' : ℕ) (w : World)
+    → WithinQuantum s e m b z q w → Adds v e b z e' b' z'
+    → Population s.soup_size e' m b' (record w { soup = soup; living = living; slicer = slicer; reaper = reaper; deaths = deaths })
+    → All IsCell soup → Each (GenotypeBelow (length w.genotypes)) living
+    → WithinQuantum s e' m b' z' q (record w { soup = soup; living = living; slicer = slicer; reaper = reaper; deaths = deaths })
+within-kept soup living slicer reaper deaths v s e m b z q e' b' z' w d a p codes below =
+    record {
+      population = p;
+      settings = d.settings;
+      number = d.number;
+      codes = codes;
+      genotype = below;
+      genotype_count = d.genotype_count;
+      listed = listed-weaker b b' w.genotypes (omega (arith, a.next_birth)) d.listed;
+      saves = saves-weaker q z z' s.save_at w.genotypes w.saved (omega (arith, a.size)) d.saves;
+    }
+
 pub within-event : (v : Event) (s : Settings) (e m b z q e' b' z' : ℕ) (w : World) → WithinQuantum s e m b z q w → CanHappen w v → Adds v e b z e' b' z'
     → WithinQuantum s e' m b' z' q (apply_event w v)
 unfolding apply_event
 within-event (event.Write at value) s e m b z q e' b' z' w d c a =
-    record {
-      population = within-population (event.Write at value) s e m b z q e' b' z' w d c a;
-      settings = d.settings;
-      number = d.number;
-      codes = All-set IsCell w.soup at value c.1 d.codes;
-      genotype = d.genotype;
-      genotype_count = d.genotype_count;
-      listed = listed-weaker b b' w.genotypes (omega (arith, a.next_birth)) d.listed;
-      saves = saves-weaker q z z' s.save_at w.genotypes w.saved (omega (arith, a.size)) d.saves;
-    }
-within-event event.Err s e m b z q e' b' z' w d c a =
-    record {
-      population = within-population event.Err s e m b z q e' b' z' w d c a;
-      settings = d.settings;
-      number = d.number;
-      codes = d.codes;
-      genotype = each-with (GenotypeBelow (length w.genotypes)) (record_after event.Err (front w)) w.living (front-genotype_below s e m b z q w d) d.genotype;
-      genotype_count = d.genotype_count;
-      listed = listed-weaker b b' w.genotypes (omega (arith, a.next_birth)) d.listed;
-      saves = saves-weaker q z z' s.save_at w.genotypes w.saved (omega (arith, a.size)) d.saves;
-    }
+    let v : Event = event.Write at value in
+    within-kept (slice_set w.soup at value) w.living w.slicer w.reaper w.deaths v s e m b z q e' b' z' w d a
+    (population-event v s.soup_size e m b e' b' w d.population c a.errors a.next_birth) (All-set IsCell w.soup at value c.1 d.codes) d.genotype
 within-event event.Good s e m b z q e' b' z' w d c a =
-    record {
-      population = within-population event.Good s e m b z q e' b' z' w d c a;
-      settings = d.settings;
-      number = d.number;
-      codes = d.codes;
-      genotype = d.genotype;
-      genotype_count = d.genotype_count;
-      listed = listed-weaker b b' w.genotypes (omega (arith, a.next_birth)) d.listed;
-      saves = saves-weaker q z z' s.save_at w.genotypes w.saved (omega (arith, a.size)) d.saves;
-    }
-within-event event.GiveUp s e m b z q e' b' z' w d c a =
-    record {
-      population = within-population event.GiveUp s e m b z q e' b' z' w d c a;
-      settings = d.settings;
-      number = d.number;
-      codes = d.codes;
-      genotype = each-with (GenotypeBelow (length w.genotypes)) (record_after event.GiveUp (front w)) w.living (front-genotype_below s e m b z q w d) d.genotype;
-      genotype_count = d.genotype_count;
-      listed = listed-weaker b b' w.genotypes (omega (arith, a.next_birth)) d.listed;
-      saves = saves-weaker q z z' s.save_at w.genotypes w.saved (omega (arith, a.size)) d.saves;
-    }
-within-event (event.Mal at size) s e m b z q e' b' z' w d c a =
-    record {
-      population = within-population (event.Mal at size) s e m b z q e' b' z' w d c a;
-      settings = d.settings;
-      number = d.number;
-      codes = d.codes;
-      genotype = each-with (GenotypeBelow (length w.genotypes)) (record_after (event.Mal at size) (front w)) w.living (front-genotype_below s e m b z q w d) d.genotype;
-      genotype_count = d.genotype_count;
-      listed = listed-weaker b b' w.genotypes (omega (arith, a.next_birth)) d.listed;
-      saves = saves-weaker q z z' s.save_at w.genotypes w.saved (omega (arith, a.size)) d.saves;
-    }
+    let v : Event = event.Good in
+    within-kept w.soup w.living w.slicer (apply_event w v).reaper w.deaths v s e m b z q e' b' z' w d a
+    (population-event v s.soup_size e m b e' b' w d.population c a.errors a.next_birth) d.codes d.genotype
 within-event (event.Reap place) s e m b z q e' b' z' w d c a =
-    record {
-      population = within-population (event.Reap place) s e m b z q e' b' z' w d c a;
-      settings = d.settings;
-      number = d.number;
-      codes = d.codes;
-      genotype = each-without (GenotypeBelow (length w.genotypes)) (slice_index w.reaper place) w.living d.genotype;
-      genotype_count = d.genotype_count;
-      listed = listed-weaker b b' w.genotypes (omega (arith, a.next_birth)) d.listed;
-      saves = saves-weaker q z z' s.save_at w.genotypes w.saved (omega (arith, a.size)) d.saves;
-    }
+    let v : Event = event.Reap place in
+    let u : World = apply_event w v in
+    within-kept w.soup u.living u.slicer u.reaper u.deaths v s e m b z q e' b' z' w d a
+    (population-event v s.soup_size e m b e' b' w d.population c a.errors a.next_birth) d.codes
+    (each-without (GenotypeBelow (length w.genotypes)) (slice_index w.reaper place) w.living d.genotype)
 within-event (event.Divide ran moved) s e m b z q e' b' z' w d c a =
-    let f = front-in_bounds s.soup_size e m b w d.population in
-    within-divide s e m b z q e' b' z' ran moved w (front w).daughter d f.daughter c.0 c.1 (omega (arith, a.next_birth)) (omega (arith, a.size))
-    (within-population (event.Divide ran moved) s e m b z q e' b' z' w d c a)
+    let v : Event = event.Divide ran moved in
+    within-divide s e m b z q e' b' z' ran moved w (front w).daughter d (front-in_bounds s.soup_size e m b w d.population).daughter c.0 c.1
+    (omega (arith, a.next_birth)) (omega (arith, a.size)) (population-event v s.soup_size e m b e' b' w d.population c a.errors a.next_birth)
+-- the others change the running record alone, and the reaper list
+within-event v s e m b z q e' b' z' w d c a =
+    let u : World = apply_event w v in
+    within-kept w.soup u.living w.slicer u.reaper w.deaths v s e m b z q e' b' z' w d a
+    (population-event v s.soup_size e m b e' b' w d.population c a.errors a.next_birth) d.codes
+    (each-with (GenotypeBelow (length w.genotypes)) (record_after v (front w)) w.living (front-genotype_below s e m b z q w d) d.genotype)
 
 -- ---- the record of a step put in
 
@@ -213,7 +182,7 @@ pub within-put : (c : Creature) (s : Settings) (e m b z q : ℕ) (w : World) →
 within-put c s e m b z q w d f h =
     let g = front-in_bounds s.soup_size e m b w d.population in
     record {
-      population = population-put c s.soup_size e m b 1 w d.population (each_once-put c w d.population.has_front d.population.each_once f) (has_front-put c w d.population.has_front) (record {
+      population = population-put c s.soup_size e m b (m + 1) w d.population (has_front-put c w d.population.has_front) (each_once-put c w d.population.has_front d.population.each_once f) (omega arith) (record {
         own = subst (IsBlock s.soup_size) (sym f.own) g.own;
         daughter = subst (λ o. IfSome o (IsBlock s.soup_size)) (sym f.daughter) g.daughter;
         ip = h.0;

@@ -1,4 +1,4 @@
--- What holds while a quantum within-run, through acts, instructions and within-instructions.
+-- A world stays within its quantum through acts, instructions and slices: what each event keeps, a quantum keeps.
 use Rattle.std.proofs.Common.{◌≡◌, ℕ, zero, suc, ◌+◌, ◌*◌, ◌/◌, ◌<◌, ◌≤◌, Bool, true, false, List, [], ◌∷◌, refl, sym, ◌∙◌, ap, subst, arith, length}
 use Rattle.std.specs.Prelude.{Some, None, Option, IsSome, All, is_some, nat_lt, slice_index}
 use Rattle.std.proofs.lemmas.Bool.Decides.{nat_tests}
@@ -20,7 +20,7 @@ use Rattle.tierra_model.specs.Events.{apply_event}
 use Rattle.tierra_model.specs.SceneRun.{births_of}
 use Rattle.tierra_model.specs.Replay.{CanHappen}
 use Rattle.tierra_model.proofs.Commutes.{front-put, front-id}
-use Rattle.tierra_model.proofs.Population.{InBounds, front-in_bounds, errors_of, each-map}
+use Rattle.tierra_model.proofs.Population.{front-in_bounds, errors_of, population-weaker}
 use Rattle.tierra_model.proofs.EventsKeep.{front-event}
 use Rattle.tierra_model.proofs.Free.{room_for_free}
 use Rattle.tierra_model.proofs.AnyMachine.{block_in, place_of_first_other-is, room-some, room-none_zero, room-none_suc, FlipOf, back_flip_of}
@@ -133,30 +133,8 @@ AfterOne s e m b z q w = WithinQuantum s (e + 1) m (b + 1) (z + 20100) q w
 
 pub within-weaker : (s : Settings) (e m b z q e' m' b' z' : ℕ) (w : World) → e ≤ e' → m ≤ m' → b ≤ b' → z ≤ z' → WithinQuantum s e m b z q w → WithinQuantum s e' m' b' z' q w
 within-weaker s e m b z q e' m' b' z' w he hm hb hz d =
-    let c = d.population in
     record {
-      population = record {
-        has_front = c.has_front;
-        each_once = c.each_once;
-        size = c.size;
-        cells = c.cells;
-        each = each-map (InBounds s.soup_size e m) (InBounds s.soup_size e' m') (λ x f. record {
-          own = f.own;
-          daughter = f.daughter;
-          ip = f.ip;
-          sp = f.sp;
-          errors = omega (arith, f.errors);
-          moved = omega (arith, f.moved);
-          ran = omega (arith, f.ran);
-          bred = omega (arith, f.bred);
-        }) w.living c.each;
-        slicer = c.slicer;
-        order = c.order;
-        zero = c.zero;
-        count = c.count;
-        births = c.births;
-        next_birth = omega (arith, c.next_birth);
-      };
+      population = population-weaker s.soup_size e m b e' m' b' w he hm hb d.population;
       settings = d.settings;
       number = d.number;
       codes = d.codes;

@@ -1,4 +1,4 @@
--- Reaper lists and yards.
+-- Reaper lists and yards: moves, the numbers of newborns, and how each creature of a world stands in a yard.
 use Rattle.std.proofs.Common.{◌≡◌, ℕ, zero, suc, ◌+◌, ◌-◌, ◌^◌, ◌<◌, ◌≤◌, Bool, true, false, List, [], ◌∷◌, refl, sym, ◌∙◌, ap, arith, inl, inr, length}
 use Rattle.std.specs.Prelude.{Option, not, map, filter, unwrap_or, ◌==◌, if◌then◌else◌, nat_lt, slice_index}
 use Rattle.std.proofs.lemmas.Bool.Decides.{nat_tests, eqb_tells}
