@@ -19,7 +19,7 @@ pub record SceneRun : Type 0 where
   pub events : List Event
   pub newborns : ℕ
 
--- A cell is noted once, and not where this quantum wrote it before.
+-- A cell is noted once, and not where this quantum wrote it before. So what it is seen to hold is what it held at the start.
 abbrev pub is_known : SceneRun → ℕ → Bool
 is_known x p = is_noted x.cells p || list_any (writes p) x.events
 
