@@ -1,4 +1,5 @@
-//! Instructions that compute with registers. The flaw of an instruction is 1 or -1, or 0 where it has none.
+//! Instructions that compute with registers. The flaw of an instruction is 1 or -1, or 0 where it has none; but for or1
+//! and shl it is added to what the instruction writes.
 
 ghost use Rattle.std.specs.Prelude.{◌≡◌, ◌+ℤ◌, ◌^◌, pos, unsigned_abs};
 ghost use Rattle.tierra_model.specs.Ring.{minus, plus, times, xor};
@@ -31,6 +32,7 @@ pub fn shl(creature: &mut Creature, flaw: i32) -> Act
     Act::Plain
 }
 
+/// Clears cx.
 pub fn zero(creature: &mut Creature, flaw: i32) -> Act
     ensures creature { creature.new ≡ record creature.old { cx = plus (pos 0) flaw } }
     ensures act { result ≡ Act.Plain }
@@ -39,6 +41,7 @@ pub fn zero(creature: &mut Creature, flaw: i32) -> Act
     Act::Plain
 }
 
+/// Puts the difference of ax and bx into cx.
 pub fn sub_ab(creature: &mut Creature, flaw: i32) -> Act
     ensures creature { creature.new ≡ record creature.old { cx = plus (minus creature.old.ax creature.old.bx) flaw } }
     ensures act { result ≡ Act.Plain }
@@ -47,6 +50,7 @@ pub fn sub_ab(creature: &mut Creature, flaw: i32) -> Act
     Act::Plain
 }
 
+/// Takes cx from ax.
 pub fn sub_ac(creature: &mut Creature, flaw: i32) -> Act
     ensures creature { creature.new ≡ record creature.old { ax = plus (minus creature.old.ax creature.old.cx) flaw } }
     ensures act { result ≡ Act.Plain }
@@ -55,6 +59,7 @@ pub fn sub_ac(creature: &mut Creature, flaw: i32) -> Act
     Act::Plain
 }
 
+/// Adds one to ax.
 pub fn inc_a(creature: &mut Creature, flaw: i32) -> Act
     ensures creature { creature.new ≡ record creature.old { ax = plus (plus creature.old.ax (pos 1)) flaw } }
     ensures act { result ≡ Act.Plain }
@@ -63,6 +68,7 @@ pub fn inc_a(creature: &mut Creature, flaw: i32) -> Act
     Act::Plain
 }
 
+/// Adds one to bx.
 pub fn inc_b(creature: &mut Creature, flaw: i32) -> Act
     ensures creature { creature.new ≡ record creature.old { bx = plus (plus creature.old.bx (pos 1)) flaw } }
     ensures act { result ≡ Act.Plain }
@@ -71,6 +77,7 @@ pub fn inc_b(creature: &mut Creature, flaw: i32) -> Act
     Act::Plain
 }
 
+/// Takes one from cx.
 pub fn dec_c(creature: &mut Creature, flaw: i32) -> Act
     ensures creature { creature.new ≡ record creature.old { cx = plus (minus creature.old.cx (pos 1)) flaw } }
     ensures act { result ≡ Act.Plain }
@@ -79,6 +86,7 @@ pub fn dec_c(creature: &mut Creature, flaw: i32) -> Act
     Act::Plain
 }
 
+/// Adds one to cx.
 pub fn inc_c(creature: &mut Creature, flaw: i32) -> Act
     ensures creature { creature.new ≡ record creature.old { cx = plus (plus creature.old.cx (pos 1)) flaw } }
     ensures act { result ≡ Act.Plain }
@@ -87,6 +95,7 @@ pub fn inc_c(creature: &mut Creature, flaw: i32) -> Act
     Act::Plain
 }
 
+/// Copies cx into dx.
 pub fn mov_cd(creature: &mut Creature, flaw: i32) -> Act
     ensures creature { creature.new ≡ record creature.old { dx = plus creature.old.cx flaw } }
     ensures act { result ≡ Act.Plain }
@@ -95,6 +104,7 @@ pub fn mov_cd(creature: &mut Creature, flaw: i32) -> Act
     Act::Plain
 }
 
+/// Copies ax into bx.
 pub fn mov_ab(creature: &mut Creature, flaw: i32) -> Act
     ensures creature { creature.new ≡ record creature.old { bx = plus creature.old.ax flaw } }
     ensures act { result ≡ Act.Plain }

@@ -1,10 +1,11 @@
-//! The stack of ten words. Its pointer moves up before a push stores and down after a pop has read, round the ten.
+//! The stack of ten words. Its pointer goes round the ten.
 
 ghost use Rattle.std.specs.Prelude.{◌≡◌, ◌<◌};
 ghost use Rattle.tierra_model.specs.Step.{pop, push, top_of};
 
 use tierra_model::{Act, Creature};
 
+/// A register that can be pushed and popped.
 #[derive(Clone, Copy, Drop)]
 pub enum Register {
     Ax,
@@ -49,6 +50,7 @@ impl Register {
     }
 }
 
+/// Moves the pointer up, and stores there.
 pub fn push_value(creature: &mut Creature, value: i32)
     requires { creature.old.sp < 10 }
     ensures { creature.new ≡ push creature.old value }
@@ -57,6 +59,7 @@ pub fn push_value(creature: &mut Creature, value: i32)
     creature.stack[creature.sp as usize] = value;
 }
 
+/// Reads at the pointer, and moves it down.
 pub fn pop_value(creature: &mut Creature) -> i32
     requires { creature.old.sp < 10 }
     ensures creature { creature.new ≡ pop creature.old }

@@ -295,14 +295,13 @@ fn copies(rt: HostRuntime) -> Result<(), Fail> {
         (150, true, 4),
     ];
     for (ax, copies, moved) in rows {
-        let start = Creature {
+        let mut creature = Creature {
             ax,
             bx: -100,
             daughter,
             moved: 3,
             ..newborn()
         };
-        let mut creature = start;
         let (act, soup) = run(&rt, alloc, &mut creature, &[0x1a], NONE, STILL, 1)?;
         assert_eq!(rt;
             matches!(act, Act::Wrote { value: 0x1a, .. }),
@@ -321,19 +320,30 @@ fn copies(rt: HostRuntime) -> Result<(), Fail> {
     };
     let (act, _) = run(&rt, alloc, &mut alone, &[0x1a], NONE, STILL, 1)?;
     assert_eq!(rt; act, Act::Erred);
-    // the same cell twice counts twice
+    Ok(())
+}
+
+#[test]
+fn counts_a_cell_copied_twice(rt: HostRuntime) -> Result<(), Fail> {
+    let alloc = rt.alloc();
     let mut twice = Creature {
         ax: 50,
-        daughter,
+        daughter: Some(Block { at: 50, size: 10 }),
         ..newborn()
     };
     let _ = run(&rt, alloc, &mut twice, &[0x1a, 0x1a], NONE, STILL, 2)?;
     assert_eq!(rt; twice.moved, 2);
+    Ok(())
+}
+
+#[test]
+fn flips_a_bit_of_a_copy(rt: HostRuntime) -> Result<(), Fail> {
+    let alloc = rt.alloc();
     // the bits that copies of this seed flip in quantum 1 begin 4, 1, 4, 4, 3, 0
     for (i, value) in [(0, 0x0a), (1, 0x18), (4, 0x12), (5, 0x1b)] {
         let mut creature = Creature {
             ax: 55,
-            daughter,
+            daughter: Some(Block { at: 50, size: 10 }),
             ..newborn()
         };
         let (act, soup) = run(&rt, alloc, &mut creature, &[0x1a], NONE, (0, 1, i), 1)?;
@@ -344,17 +354,17 @@ fn copies(rt: HostRuntime) -> Result<(), Fail> {
 }
 
 #[test]
-fn gives_birth(rt: HostRuntime) -> Result<(), Fail> {
+fn asks_for_a_daughter_block(rt: HostRuntime) -> Result<(), Fail> {
     let alloc = rt.alloc();
-    // mal: the creature's size, cx, and whether the request passes
-    for (size, cx, passes) in [
-        (10, 12, true),
-        (10, 11, false),
-        (10, -12, false),
-        (10, 25, true),
-        (10, 26, false),
-        (5, 15, true),
-        (5, 16, false),
+    // the creature's size, cx, and the size asked for, if it is granted
+    for (size, cx, want) in [
+        (10, 12, Some(12)),
+        (10, 11, None),
+        (10, -12, None),
+        (10, 25, Some(25)),
+        (10, 26, None),
+        (5, 15, Some(15)),
+        (5, 16, None),
     ] {
         let start = Creature {
             own: Block { at: 0, size },
@@ -363,60 +373,30 @@ fn gives_birth(rt: HostRuntime) -> Result<(), Fail> {
         };
         let mut creature = start;
         let (act, _) = run(&rt, alloc, &mut creature, &[0x1e], NONE, STILL, 1)?;
-        let want = if passes {
-            Act::Mal {
-                size: cx.unsigned_abs(),
-            }
-        } else {
-            Act::Erred
+        let (want, flag) = match want {
+            Some(size) => (Act::Mal { size }, 0),
+            None => (Act::Erred, 1),
         };
-        let errors = if passes { 0 } else { 1 };
         assert_eq!(rt; act, want, "size {size}, cx {cx}");
         assert_eq!(rt;
             creature,
             Creature {
                 ip: 1,
                 ran: 1,
-                flag: errors as u8,
-                errors,
+                flag,
+                errors: u64::from(flag),
                 ..start
             }
         );
     }
+    Ok(())
+}
+
+#[test]
+fn divides(rt: HostRuntime) -> Result<(), Fail> {
+    let alloc = rt.alloc();
     let held = Some(Block { at: 50, size: 10 });
-    let mother = Creature {
-        daughter: held,
-        moved: 7,
-        ax: 5,
-        ran: 100,
-        bred: 2,
-        ..newborn()
-    };
-    let got = Block { at: 40, size: 12 };
-    let mut creature = mother;
-    mal_done(&mut creature, Some(got));
-    assert_eq!(rt;
-        creature,
-        Creature {
-            daughter: Some(got),
-            moved: 0,
-            ax: 40,
-            ..mother
-        }
-    );
-    let mut creature = mother;
-    mal_done(&mut creature, None);
-    assert_eq!(rt;
-        creature,
-        Creature {
-            daughter: None,
-            moved: 0,
-            flag: 1,
-            errors: 1,
-            ..mother
-        }
-    );
-    // divide: the daughter block, what was moved, and whether it succeeds
+    // the daughter block, what was moved, and whether it succeeds
     for (daughter, moved, succeeds) in [(held, 6, false), (held, 7, true), (None, 7, false)] {
         let mut creature = Creature {
             daughter,
@@ -424,24 +404,51 @@ fn gives_birth(rt: HostRuntime) -> Result<(), Fail> {
             ..newborn()
         };
         let (act, _) = run(&rt, alloc, &mut creature, &[0x1f], NONE, STILL, 1)?;
-        assert_eq!(rt;
-            act,
-            if succeeds { Act::Divide } else { Act::Erred },
-            "moved {moved}"
-        );
+        let want = if succeeds { Act::Divide } else { Act::Erred };
+        assert_eq!(rt; act, want, "moved {moved}");
         assert_eq!(rt; creature.errors == 0, succeeds, "moved {moved}");
     }
+    Ok(())
+}
+
+#[test]
+fn ends_mal_and_divide(rt: HostRuntime) {
+    let mother = Creature {
+        daughter: Some(Block { at: 50, size: 10 }),
+        moved: 7,
+        ax: 5,
+        ran: 100,
+        bred: 2,
+        ..newborn()
+    };
+    let got = Some(Block { at: 40, size: 12 });
+    let mut creature = mother;
+    mal_done(&mut creature, got);
+    let want = Creature {
+        daughter: got,
+        moved: 0,
+        ax: 40,
+        ..mother
+    };
+    assert_eq!(rt; creature, want);
+    let mut creature = mother;
+    mal_done(&mut creature, None);
+    let want = Creature {
+        daughter: None,
+        moved: 0,
+        flag: 1,
+        errors: 1,
+        ..mother
+    };
+    assert_eq!(rt; creature, want);
     let mut creature = mother;
     divide_done(&mut creature);
-    assert_eq!(rt;
-        creature,
-        Creature {
-            daughter: None,
-            moved: 0,
-            ran: 0,
-            bred: 3,
-            ..mother
-        }
-    );
-    Ok(())
+    let want = Creature {
+        daughter: None,
+        moved: 0,
+        ran: 0,
+        bred: 3,
+        ..mother
+    };
+    assert_eq!(rt; creature, want);
 }
