@@ -1,5 +1,5 @@
 -- What the causes of an answer exclude, and what a tell in part leaves.
-use Rattle.std.proofs.Common.{◌≡◌, ◌∙◌, sym, ap, ℕ, ◌<◌, List, Option, Some, None, Result, Ok, Err, IfErr, refl, arith, inl, inr, subst}
+use Rattle.std.proofs.Common.{◌≡◌, sym, ℕ, ◌<◌, List, Option, Some, None, Result, Ok, Err, IfErr, refl, arith, inl, inr, subst}
 use Rattle.std.specs.Prelude.{◌⊎◌, IfSome}
 use Rattle.desk_io.specs.Desk.{AppendedSome}
 use Rattle.soup_top.specs.declared.status.Status.{Status}

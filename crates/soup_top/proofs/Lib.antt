@@ -1,8 +1,10 @@
 mod Pieces
 mod WordLists
 mod Asking
+mod Outcomes
 mod Alone
-mod OneStep
+mod Staying
+mod FlatSteps
 mod LoneSoup
 mod Built
 mod Accepted

@@ -1,15 +1,16 @@
 -- The soup of a creature that is alone, and what it owns.
-use Rattle.std.proofs.Common.{◌≡◌, ◌∙◌, refl, ℕ, zero, suc, ◌+◌, ◌-◌, ◌≤◌, List, [], ◌∷◌, ◌++◌, length, replicate, arith, min}
-use Rattle.std.specs.Prelude.{Bool, true, false, ◌||◌, ◌&&◌, nat_lt, nat_le, None}
+use Rattle.std.proofs.Common.{◌≡◌, ◌∙◌, sym, ap, subst, refl, ℕ, zero, suc, ◌+◌, ◌-◌, ◌≤◌, List, [], ◌∷◌, ◌++◌, length, replicate, arith, min}
+use Rattle.std.specs.Prelude.{Bool, true, false, ◌||◌, ◌&&◌, nat_lt, nat_le, None, slice_index}
 use Rattle.std.specs.List.{AllPass}
 use Rattle.std.proofs.lemmas.List.{length-append, length-replicate}
 use Rattle.std.proofs.lemmas.List.Elements.{All-append, All-replicate}
 use Rattle.std.proofs.lemmas.Bool.Decides.{nat_tests}
 use Rattle.tierra_model.specs.declared.creatures.Creature.{Creature}
+use Rattle.tierra_model.specs.Living.{newborn}
 use Rattle.tierra_model.specs.Blocks.{is_in, is_in_daughter}
 use Rattle.tierra_model.specs.Room.{count_from, filled, is_owned}
 use Rattle.tierra_model.specs.Report.{report_head, counts_text, front_text}
-use Rattle.soup_top.specs.Lone.{is_built, lone_world, lone_soup}
+use Rattle.soup_top.specs.Lone.{IsAlone, is_built, lone_world, lone_soup}
 use Rattle.soup_top.proofs.Alone.{front-lone}
 
 pub length-lone_soup : (code : List ℕ) → length code ≤ 60000 → length (lone_soup code) ≡ 60000
@@ -20,6 +21,34 @@ pub built-lone_soup : (code : List ℕ) → AllPass is_built code → AllPass is
 unfolding lone_soup
 built-lone_soup code h =
     All-append (λ v. is_built v ≡ true) code (replicate (60000 - length code) 0) h (All-replicate (λ v. is_built v ≡ true) (60000 - length code) 0 refl)
+
+-- the creature of a code begins alone
+pub alone-newborn : (code soup : List ℕ) (c : Creature) → length code ≤ 60000 → AllPass is_built code
+    → c ≡ newborn 1 (record { at = 0; size = length code }) 0 → soup ≡ lone_soup code → IsAlone 0 c soup
+alone-newborn code soup c h built new cells =
+    subst (λ (r : Creature × List ℕ). IsAlone 0 r.0 r.1) (λ j. (sym new j, sym cells j)) (record {
+      id = refl;
+      daughter = refl;
+      ip = omega arith;
+      sp = omega arith;
+      moved = omega arith;
+      ran = omega arith;
+      errors = omega arith;
+      cells = length-lone_soup code h;
+      built = built-anywhere (lone_soup code) (built-lone_soup code built);
+    })
+  where
+    past : (xs : List ℕ) (k : ℕ) → length xs ≤ k → slice_index xs k ≡ 0
+    past [] k e = refl
+    past (x ∷ xs) zero e = absurd (omega arith)
+    past (x ∷ xs) (suc k) e = past xs k (omega arith)
+
+    built-anywhere : (xs : List ℕ) → AllPass is_built xs → (p : ℕ) → is_built (slice_index xs p) ≡ true
+    built-anywhere xs each p = go (nat_lt p (length xs)) refl
+      where
+        go : (b : Bool) → nat_lt p (length xs) ≡ b → is_built (slice_index xs p) ≡ true
+        go true e = each p 0 (grind (arith, nat_tests))
+        go false e = let k : length xs ≤ p = grind (arith, nat_tests) in ap is_built (past xs p k)
 
 -- a test of the cells below size counts those that are left of them
 count-below : (test : ℕ → Bool) (size : ℕ) → ((p : ℕ) → test p ≡ nat_lt p size) → (p k : ℕ) → count_from test p k ≡ min size (p + k) - p

@@ -1,12 +1,12 @@
 -- A world of one creature that runs built instructions alone.
-use Rattle.std.specs.Prelude.{ℕ, ◌-◌, ◌==◌, ◌||◌, Bool, nat_lt, List, [], ◌∷◌, ◌++◌, length, replicate, None}
+use Rattle.std.specs.Prelude.{ℕ, ◌-◌, ◌<◌, ◌≤◌, ◌≡◌, Bool, true, nat_lt, slice_index, List, [], ◌∷◌, ◌++◌, length, replicate, None}
 use Rattle.tierra_model.specs.declared.creatures.Creature.{Creature}
 use Rattle.tierra_model.specs.World.{World}
 use Rattle.tierra_model.specs.Setups.{default_settings}
 
--- nop_0, nop_1, or1, shl, zero and mov_cd
+-- all but mal and divide, whose codes are the last two
 abbrev pub is_built : ℕ → Bool
-is_built code = nat_lt code 5 || code == 24
+is_built code = nat_lt code 30
 
 -- an empty soup with the code at cell 0
 unfoldable pub lone_soup : List ℕ → List ℕ
@@ -28,3 +28,15 @@ lone_world code soup c quanta =
       next_birth = 2;
       quanta = quanta;
     }
+
+-- a creature is alone in the soup, and m instructions ran at most
+pub record IsAlone (m : ℕ) (c : Creature) (soup : List ℕ) : Type 0 where
+  pub id : c.id ≡ 1
+  pub daughter : c.daughter ≡ None
+  pub ip : c.ip < 60000
+  pub sp : c.sp < 10
+  pub moved : c.moved ≤ m
+  pub ran : c.ran ≤ m
+  pub errors : c.errors ≤ m
+  pub cells : length soup ≡ 60000
+  pub built : (p : ℕ) → is_built (slice_index soup p) ≡ true

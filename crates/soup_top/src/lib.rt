@@ -1,6 +1,7 @@
 //! The call that does all that the program does.
 #![tactic(auto)]
 
+mod flat;
 mod head;
 mod lone;
 mod reading;

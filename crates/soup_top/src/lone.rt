@@ -1,69 +1,45 @@
 //! A run of one creature that is alone in its soup.
 
-ghost use Rattle.std.specs.Prelude.{◌≡◌, ◌+◌, ◌<◌, ◌≤◌, ◌^◌, ℕ, List, None, IfOk, slice_index, length};
+ghost use Rattle.std.specs.Prelude.{◌≡◌, ◌+◌, ◌*◌, ◌<◌, ◌≤◌, ℕ, List, None, IfOk, length};
 ghost use Rattle.std.specs.List.{AllPass};
-ghost use Rattle.tierra_model.specs.declared.events.Act.TheVariants.{Plain};
-ghost use Rattle.tierra_model.specs.Look.{answer};
-ghost use Rattle.tierra_model.specs.Step.{step};
 ghost use Rattle.tierra_model.specs.Ranges.{IsCode};
 ghost use Rattle.tierra_model.specs.Living.{newborn};
 ghost use Rattle.tierra_model.specs.Quantum.{quantum};
 ghost use Rattle.tierra_model.specs.Serial.{serial};
 ghost use Rattle.tierra_model.specs.Setups.{default_settings, setup_for};
-ghost use Rattle.soup_top.specs.Lone.{is_built, lone_world, lone_soup};
+ghost use Rattle.soup_top.specs.Lone.{IsAlone, is_built, lone_world, lone_soup};
 
-use soup_ops::op_of;
+use crate::flat::FlatSoup;
+use cpu_core::step;
+use mutation_streams::Draws;
 use std::alloc::Global;
-use tierra_model::{Block, Creature, Op, OutOfMemory};
+use std::marker::Brand;
+use std::sync::ledger::{Blank, Ledger};
+use step_count::Steps;
+use tierra_model::{Block, Code, Creature, OutOfMemory, Settings, grow_setup};
 
 const CELLS: u32 = 60000;
 
-const SLICE: u64 = 25;
-// Nothing is flawed where the rate is 0.
-const FLAW: i32 = 0;
-
-/// One instruction. The seed draws nothing under the default settings.
-fn step(creature: &mut Creature, soup: &[u8])
-    requires cells { length soup.now ≡ 60000 }
-    requires built { AllPass is_built soup.now }
-    requires ip { creature.old.ip < 60000 }
-    requires few { creature.old.ran < 2 ^ 60 }
-    ensures record { (draw : ℕ → ℕ) (i : ℕ) → answer (step default_settings draw i creature.old) (slice_index soup.now) ≡ (creature.new, Plain) }
-    ensures ip { creature.new.ip < 60000 }
-    ensures ran { creature.new.ran ≡ creature.old.ran + 1 }
-    ensures id { creature.new.id ≡ creature.old.id }
-    ensures blocks { (creature.new.own ≡ creature.old.own) × (creature.new.daughter ≡ creature.old.daughter) }
+/// A quantum, after so many: a slice of instructions.
+fn run_slice<L: Ledger>(
+    creature: &mut Creature,
+    soup: &mut FlatSoup,
+    settings: &Settings,
+    quanta: u64,
+    steps: &mut Steps<L>,
+)
+    requires settings { settings.now ≡ default_settings }
+    requires few { quanta < 4000000 }
+    requires alone { IsAlone (25 * quanta) creature.old soup.old.cells }
+    requires own { soup.old.own ≡ creature.old.own }
+    ensures quantum { (code : List ℕ) → quantum (lone_world code soup.old.cells creature.old quanta) ≡ lone_world code soup.new.cells creature.new (quanta + 1) }
+    ensures alone { IsAlone (25 * (quanta + 1)) creature.new soup.new.cells }
+    ensures own { soup.new.own ≡ creature.new.own }
+    ensures same_block { creature.new.own ≡ creature.old.own }
 {
-    let code = soup[creature.ip as usize];
-    creature.ip = (creature.ip + 1) % CELLS;
-    creature.flag = 0;
-    creature.ran += 1;
-    match op_of(code) {
-        Some(Op::Nop0) => {}
-        Some(Op::Nop1) => {}
-        Some(Op::Or1) => creature.cx ^= 1,
-        Some(Op::Shl) => creature.cx = creature.cx.wrapping_mul(2),
-        Some(Op::Zero) => creature.cx = 0,
-        Some(Op::MovCd) => creature.dx = creature.cx.wrapping_add(FLAW),
-        _ => unreachable!(),
-    }
-}
-
-/// A quantum: a slice of instructions.
-fn run_slice(creature: &mut Creature, soup: &[u8])
-    requires cells { length soup.now ≡ 60000 }
-    requires built { AllPass is_built soup.now }
-    requires ip { creature.old.ip < 60000 }
-    requires few { creature.old.ran < 2 ^ 59 }
-    requires id { creature.old.id ≡ 1 }
-    ensures quantum { (code : List ℕ) (k : ℕ) → quantum (lone_world code soup.now creature.old k) ≡ lone_world code soup.now creature.new (k + 1) }
-    ensures ip { creature.new.ip < 60000 }
-    ensures ran { creature.new.ran ≡ creature.old.ran + 25 }
-    ensures id { creature.new.id ≡ 1 }
-    ensures blocks { (creature.new.own ≡ creature.old.own) × (creature.new.daughter ≡ creature.old.daughter) }
-{
-    for _ in 0..SLICE {
-        step(creature, soup);
+    let draws = Draws::new(settings, quanta + 1);
+    for i in 0..settings.slice_size {
+        step(creature, soup, &draws, i, settings, steps);
     }
 }
 
@@ -103,18 +79,40 @@ fn soup_of(alloc: Global, code: &[u8]) -> Result<Vec<u8>, OutOfMemory>
     Ok(soup)
 }
 
+/// The creature of the code after so many quanta, whose instructions a new counter counts.
+fn run_counted<L: Ledger>(
+    alloc: Global,
+    code: &[u8],
+    quanta: u64,
+    blank: Blank,
+) -> Result<Creature, OutOfMemory>
+    requires code { IsCode code.now }
+    requires built { AllPass is_built code.now }
+    requires few { quanta ≤ 4000000 }
+    requires name { blank.name ≡ L.name }
+    requires parts { blank.parts ≡ L.parts }
+    requires some { 0 < L.parts }
+    ensures world { IfOk result (λ c. (soup : List ℕ) × (serial (setup_for code.now) quanta ≡ lone_world code.now soup c quanta)) }
+    ensures alone { IfOk result (λ c. (c.id ≡ 1) × (c.own ≡ record { at = 0; size = length code.now }) × (c.daughter ≡ None)) }
+{
+    let items = code.to_vec(alloc)?;
+    let settings = grow_setup(alloc, Code { items })?.settings;
+    let mut steps = Steps::<L>::start(blank);
+    let mut creature = newborn(code.len() as u32);
+    let mut soup = FlatSoup::new(soup_of(alloc, code)?, creature.own);
+    for quantum in 0..quanta {
+        run_slice(&mut creature, &mut soup, &settings, quantum, &mut steps);
+    }
+    Ok(creature)
+}
+
 /// The creature of the code after so many quanta.
 pub(crate) fn run_lone(alloc: Global, code: &[u8], quanta: u64) -> Result<Creature, OutOfMemory>
     requires code { IsCode code.now }
     requires built { AllPass is_built code.now }
     requires few { quanta ≤ 4000000 }
-    ensures world { IfOk result (λ c. serial (setup_for code.now) quanta ≡ lone_world code.now (lone_soup code.now) c quanta) }
+    ensures world { IfOk result (λ c. (soup : List ℕ) × (serial (setup_for code.now) quanta ≡ lone_world code.now soup c quanta)) }
     ensures alone { IfOk result (λ c. (c.id ≡ 1) × (c.own ≡ record { at = 0; size = length code.now }) × (c.daughter ≡ None)) }
 {
-    let soup = soup_of(alloc, code)?;
-    let mut creature = newborn(code.len() as u32);
-    for _ in 0..quanta {
-        run_slice(&mut creature, &soup);
-    }
-    Ok(creature)
+    run_counted::<Brand>(alloc, code, quanta, Blank::new(1))
 }

@@ -1,6 +1,8 @@
 //! Runs of the top call over sources and desks in memory.
 ghost use Rattle.std.specs.Prelude.{◌<◌};
 
+mod instructions;
+
 use super::*;
 use desk_io::{MemDesk, MemSource};
 use std::alloc::Global;
@@ -100,7 +102,10 @@ fn a_tell_that_fails_is_the_answer(rt: HostRuntime) -> Result<(), Fail> {
 
 #[test]
 fn texts_are_told_whole(rt: HostRuntime) -> Result<(), Fail> {
-    let rows: [(&str, &str, &str); 9] = [
+    let jump =
+        "quanta 1\nbirths 0\ndeaths 0\nliving 1\nfilled 5\nfront 1 ip 28 ax 0 bx 1 cx 0 dx 0 flag 0 errors 0\n";
+    let rows: [(&str, &str, &str); 10] = [
+        ("grow --quanta 1", "jmp nop_0 inc_a nop_1 inc_b", jump),
         ("grow --quanta 1 --workers 1", FIRST, FIRST_REPORT),
         ("grow --quanta 1", FIRST, FIRST_REPORT),
         ("asm", "nop_0 divide ; end", "00 1f\n"),
@@ -246,8 +251,8 @@ fn listings_are_refused_for_their_first_fault(rt: HostRuntime) -> Result<(), Fai
         (
             "grow",
             ANCESTOR,
-            SourceFault::NotBuilt { place: 10 },
-            "instruction 10 is not built",
+            SourceFault::NotBuilt { place: 28 },
+            "instruction 28 is not built",
         ),
         (
             "grow",

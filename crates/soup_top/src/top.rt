@@ -27,7 +27,7 @@ const MOST_BYTES: usize = 1_048_576;
 fn runs(code: u8) -> bool
     ensures { result ≡ is_built code }
 {
-    code < 5 || code == 24
+    code < 30
 }
 
 /// The place of the first instruction that does not run yet.

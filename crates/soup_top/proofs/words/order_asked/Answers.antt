@@ -1,4 +1,4 @@
-use Rattle.std.proofs.Common.{◌≡◌, List, ℕ, Option, None, MatchOption, true≢false, sym}
+use Rattle.std.proofs.Common.{true≢false, sym}
 use Rattle.std.specs.Prelude.{map, string_bytes}
 use Rattle.soup_top.specs.declared.words.Order.{Order}
 use Rattle.soup_top.specs.declared.words.Order.TheVariants as order
