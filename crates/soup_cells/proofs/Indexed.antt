@@ -1,11 +1,11 @@
 -- A cell of the page that is found at its place.
-use Rattle.std.proofs.Common.{◌≡◌, ℕ, ◌*◌, ◌+◌, ◌/◌, ◌%◌, ◌<◌, List, [], get_or, length, map, set, ◌∙◌, ap, sym, subst, arith}
+use Rattle.std.proofs.Common.{◌≡◌, ℕ, ◌*◌, ◌+◌, ◌/◌, ◌%◌, ◌<◌, List, [], get_or, length, map, set, ◌∙◌, ap, sym, subst}
 use Rattle.std.proofs.lemmas.List.{get_or-map, get_or_read, length-map, map-set}
 use Rattle.std.proofs.lemmas.List.Elements.{All-get_or}
 use Rattle.std.specs.List.{concat}
 use Rattle.std.specs.Prelude.{min, slice_range}
 use Rattle.soup_cells.specs.Pages.{AreCells, ArePages}
-use Rattle.soup_cells.proofs.Paged.{IsCell, cell-at, length-pages, page-cells, pages-set, set-at}
+use Rattle.soup_cells.proofs.Paged.{cell-at, length-pages, page-cells, pages-set, set-at}
 
 -- the page has the cell
 pub record HasCell {X : Type 0} (f : X → List ℕ) (pages : List X) (at : ℕ) : Type 0 where
@@ -43,7 +43,7 @@ cell-set f pages n at v x y cells within-cells e written =
     let l : at < n = subst (λ (k : ℕ). at < k) (length-pages n (map f pages) cells.paged) within-cells in
     ap concat (map-set f pages (at / 4096) y)
     ∙ ap (λ (page : List ℕ). concat (set (map f pages) (at / 4096) page))
-      (written ∙ ap (λ (page : List ℕ). set page (at % 4096) v) (sym (page-is f pages (at / 4096) x within e)))
+    (written ∙ ap (λ (page : List ℕ). set page (at % 4096) v) (sym (page-is f pages (at / 4096) x within e)))
     ∙ set-at n at v (map f pages) cells.paged l
 
 -- pages with one of them replaced by one as long
@@ -60,8 +60,8 @@ pub page-at : {X : Type 0} (f : X → List ℕ) (pages : List X) (n k : ℕ) →
 page-at f pages n k p l =
     let size : n ≡ length (concat (map f pages)) = sym (length-pages n (map f pages) p) in
     let c = page-cells (map f pages) n k p (subst (λ (m : ℕ). 4096 * k < m) (sym size) l) in
-    let within : k < length pages = subst (λ (m : ℕ). k < m) (length-map pages f) c.0 in
-    ( within
-    , λ x e. sym (page-is f pages k x within e) ∙ c.1
-        ∙ ap (λ (m : ℕ). slice_range (concat (map f pages)) (4096 * k) (min (4096 * k + 4096) m)) size
+    let within : k < length pages = subst (λ (m : ℕ). k < m) (length-map pages f) c.0 in (
+      within,
+      λ x e. sym (page-is f pages k x within e) ∙ c.1
+          ∙ ap (λ (m : ℕ). slice_range (concat (map f pages)) (4096 * k) (min (4096 * k + 4096) m)) size,
     )

@@ -1,5 +1,5 @@
 -- A cell is the cell of a page.
-use Rattle.std.proofs.Common.{◌≡◌, ℕ, zero, suc, ◌+◌, ◌-◌, ◌*◌, ◌/◌, ◌%◌, ◌<◌, ◌≤◌, List, [], ◌∷◌, ◌++◌, drop, get_or, length, min, refl, set, take, ◌∙◌, ap, ap₂, sym, subst, arith, length-append, length-set}
+use Rattle.std.proofs.Common.{◌≡◌, ℕ, zero, suc, ◌+◌, ◌-◌, ◌*◌, ◌/◌, ◌%◌, ◌<◌, ◌≤◌, List, [], ◌∷◌, ◌++◌, drop, get_or, length, min, set, take, ◌∙◌, ap, ap₂, sym, arith, length-append}
 use Rattle.std.proofs.lemmas.List.{get_or_append_left, get_or-append_right, set-append_left, set-append_right}
 use Rattle.std.proofs.Math.Seq.{drop-append-add, take-append_seam}
 use Rattle.std.specs.List.{concat}
@@ -82,5 +82,5 @@ page-cells (page ∷ pages) n (suc q) p l =
     let past : length page + 4096 * q ≡ 4096 * suc q = omega arith in
     let count : min (4096 * q + 4096) (n - 4096) - 4096 * q ≡ min (4096 * suc q + 4096) n - 4096 * suc q = omega arith in
     let rest : drop (4096 * q) (concat pages) ≡ drop (4096 * suc q) (page ++ concat pages) =
-        sym (drop-append-add page (concat pages) (4096 * q)) ∙ ap (λ (k : ℕ). drop k (page ++ concat pages)) past in
+    sym (drop-append-add page (concat pages) (4096 * q)) ∙ ap (λ (k : ℕ). drop k (page ++ concat pages)) past in
     (omega arith, next.1 ∙ ap₂ (λ (k : ℕ) (cells : List ℕ). take k cells) count rest)

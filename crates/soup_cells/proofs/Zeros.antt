@@ -49,10 +49,10 @@ zeros-push n number len pages l e z =
 pub zeros-all : (n number : ℕ) (pages : List (List ℕ)) → n ≤ 4096 * number → AreZeros n number pages → AreCells n pages × (concat pages ≡ replicate n 0)
 zeros-all n number pages l z =
     let all : min (4096 * number) n ≡ n = omega arith in
-    let zeros : concat pages ≡ replicate n 0 = z.zeros ∙ ap (λ (m : ℕ). replicate m 0) all in
-    ( record {
+    let zeros : concat pages ≡ replicate n 0 = z.zeros ∙ ap (λ (m : ℕ). replicate m 0) all in (
+      record {
         paged = subst (λ (m : ℕ). ArePages m pages) all z.paged;
         codes = subst (All (λ v. v < 32)) (sym zeros) (All-replicate (λ v. v < 32) n 0 (omega arith));
-      }
-    , zeros
+      },
+      zeros,
     )

@@ -128,7 +128,10 @@ mod tests {
         assert_eq!(rt; (first.get(4095), first.get(4096)), (0, 0));
         assert_eq!(rt; (second.get(4095), second.get(4096)), (7, 9));
         assert_eq!(rt; (soup.get(4095), soup.get(4096)), (3, 9));
-        assert_eq!(rt; (second.size(), second.page(0)[4095], second.page(2).len()), (10_000, 7, 1808));
+        assert_eq!(rt;
+            (second.size(), second.page(0)[4095], second.page(2).len()),
+            (10_000, 7, 1808)
+        );
         Ok(())
     }
 

@@ -1,4 +1,4 @@
-use Rattle.std.proofs.Common.{◌≡◌, ◌∙◌, ◌<◌, ◌/◌, ◌%◌, List, ap, get_or, length, rules, subst, sym, ℕ}
+use Rattle.std.proofs.Common.{◌∙◌, ◌<◌, ◌/◌, ap, get_or, length, rules, subst, sym, ℕ}
 use Rattle.soup_cells.specs.Cells.{Cells}
 use Rattle.soup_cells.specs.Pages.{page_cells}
 use Rattle.soup_cells.proofs.Indexed.{HasCell, has-cell}

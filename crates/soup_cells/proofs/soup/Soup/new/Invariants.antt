@@ -1,4 +1,4 @@
-use Rattle.std.proofs.Common.{◌≡◌, map}
+use Rattle.std.proofs.Common.{map}
 use Rattle.soup_cells.specs.Pages.{page_cells}
 use Rattle.soup_cells.proofs.Zeros.{AreZeros}
 use Rattle.soup_cells.proofs.soup.Soup.new.Given as goal

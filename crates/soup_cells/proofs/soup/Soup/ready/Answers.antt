@@ -1,4 +1,4 @@
-use Rattle.std.proofs.Common.{◌≡◌, ◌∙◌, ◌<◌, ◌/◌, Bool, List, ap, false, get_or, length, map, rules, set, subst, sym, true, ℕ}
+use Rattle.std.proofs.Common.{◌≡◌, ◌∙◌, ◌<◌, ◌/◌, ap, false, get_or, length, map, rules, set, subst, sym, true}
 use Rattle.std.proofs.Math.Seq.{map-set_same}
 use Rattle.std.specs.List.{concat}
 use Rattle.soup_cells.specs.Cells.{Cells, is_ready}

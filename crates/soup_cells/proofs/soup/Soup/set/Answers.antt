@@ -4,7 +4,7 @@ use Rattle.std.proofs.lemmas.List.{get_or-map}
 use Rattle.std.proofs.lemmas.List.Elements.{All-set}
 use Rattle.soup_cells.specs.Cells.{Cells, is_ready}
 use Rattle.soup_cells.specs.declared.page.Page.{Page}
-use Rattle.soup_cells.specs.Pages.{AreCells, cells_of, is_own, page_cells}
+use Rattle.soup_cells.specs.Pages.{cells_of, is_own, page_cells}
 use Rattle.soup_cells.proofs.Indexed.{HasCell, cell-set, has-cell, paged-set}
 use Rattle.soup_cells.proofs.soup.Soup.set.Goals as goal
 use Rattle.soup_cells.proofs.soup.Soup.set.Goals.{After-self, After-set}
@@ -36,7 +36,7 @@ set-requires-clause-within c = (there ((goal.at.set-requires-clause-within c).Af
 pub invariant_of-self : goal.invariant_of-self
 invariant_of-self c =
     let long : length (page_cells c.set.new.self) ≡ length (page_cells c.index_mut.result.now) =
-        ap length c.set.ensures.cells ∙ length-set (page_cells c.index_mut.result.now) (c.args.at % 4096) c.args.value in
+    ap length c.set.ensures.cells ∙ length-set (page_cells c.index_mut.result.now) (c.args.at % 4096) c.args.value in
     record {
       paged = paged-set page_cells c.self.inside.pages.items c.self.inside.size (c.args.at / 4096) c.index_mut.result.now c.set.new.self
           c.self.invariant.paged (there ((goal.at.invariant_of-self c).After-self)).page c.index_mut.ensures.value long;
@@ -58,9 +58,9 @@ pub returns-clause-ready : goal.returns-clause-ready
 unfolding is_ready
 returns-clause-ready c p =
     let is : is_own c.index_mut.result.now ≡ true =
-        own c.self.inside.pages.items (c.args.at / 4096) c.index_mut.result.now (there ((goal.at.returns-clause-ready c).After-self)).page c.index_mut.ensures.value
-        (ap (λ (s : Cells). get_or s.own (c.args.at / 4096) false) c.self.view_is ∙ c.requires.ready) in
+    own c.self.inside.pages.items (c.args.at / 4096) c.index_mut.result.now (there ((goal.at.returns-clause-ready c).After-self)).page c.index_mut.ensures.value
+    (ap (λ (s : Cells). get_or s.own (c.args.at / 4096) false) c.self.view_is ∙ c.requires.ready) in
     ap (λ (flags : List Bool). get_or flags (p / 4096) false)
-      (map-set_same is_own c.self.inside.pages.items (c.args.at / 4096) c.set.new.self c.index_mut.result.now
-        (c.set.ensures.own ∙ sym is ∙ ap is_own c.index_mut.ensures.value))
+    (map-set_same is_own c.self.inside.pages.items (c.args.at / 4096) c.set.new.self c.index_mut.result.now
+    (c.set.ensures.own ∙ sym is ∙ ap is_own c.index_mut.ensures.value))
     ∙ ap (λ (s : Cells). get_or s.own (p / 4096) false) c.self.view_is
