@@ -1,0 +1,6 @@
+mod Members
+mod Checks
+mod Tables
+mod Apart
+mod InOrder
+mod WholeFile
