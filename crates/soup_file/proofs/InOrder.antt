@@ -68,10 +68,10 @@ read-more size ts i cs new t c l e r same apart is passed =
     let within : i < length es = subst (λ n. i < n) (sym (length-enumerate_from 1 ts)) l in
     let here = numbered ts i t l e in
     let this : get_or (inocula_of size ts) i (Some c) ≡ Some c =
-        get_or-map (inoculum_of size) es i (i + 1, t) (Some c) within
-        ∙ ap (inoculum_of size) (sym here)
-        ∙ ap (λ n. inoculum_of size (n + 1, t)) (sym r.count)
-        ∙ is in
+    get_or-map (inoculum_of size) es i (i + 1, t) (Some c) within
+    ∙ ap (inoculum_of size) (sym here)
+    ∙ ap (λ n. inoculum_of size (n + 1, t)) (sym r.count)
+    ∙ is in
     let within_inocula : i < length (inocula_of size ts) = subst (λ n. i < n) (sym (length-map es (inoculum_of size))) within in
     record {
       apart = apart;
@@ -92,7 +92,7 @@ pub read-all : (size : ℕ) (ts : List Members) (i : ℕ) (cs : List Inoculum) �
     → (map Some cs ≡ inocula_of size ts) × (first_fault (all_creature_checks size ts) ≡ None)
 read-all size ts i cs l r =
     let es = enumerate_from 1 ts in
-    let long : length es ≤ i = subst (λ n. n ≤ i) (sym (length-enumerate_from 1 ts)) l in
-    ( r.inocula ∙ take_all i (inocula_of size ts) (subst (λ n. n ≤ i) (sym (length-map es (inoculum_of size))) long)
-    , ap (λ xs. first_fault (flat_map (checks_among size ts) xs)) (sym (take_all i es long)) ∙ r.passed
+    let long : length es ≤ i = subst (λ n. n ≤ i) (sym (length-enumerate_from 1 ts)) l in (
+      r.inocula ∙ take_all i (inocula_of size ts) (subst (λ n. n ≤ i) (sym (length-map es (inoculum_of size))) long),
+      ap (λ xs. first_fault (flat_map (checks_among size ts) xs)) (sym (take_all i es long)) ∙ r.passed,
     )

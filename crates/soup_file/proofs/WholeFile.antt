@@ -28,8 +28,8 @@ unfolding checks_of after_keys
 settings-fault document fault known e =
     passed (unknown_key [] top_keys document) (after_keys document) known
     ∙ failed-append (map (option_map file_fault) (setting_checks document))
-      (result_err (creature_tables document) ∷ checks_of_tables (soup_size_of document) (creature_tables document)) (file_fault fault)
-      (first_fault-map file_fault (setting_checks document) ∙ ap (option_map file_fault) e)
+    (result_err (creature_tables document) ∷ checks_of_tables (soup_size_of document) (creature_tables document)) (file_fault fault)
+    (first_fault-map file_fault (setting_checks document) ∙ ap (option_map file_fault) e)
 
 -- where the keys and the settings pass
 after_settings : (document : Members) → unknown_key [] top_keys document ≡ None → first_fault (setting_checks document) ≡ None
@@ -38,8 +38,8 @@ unfolding checks_of after_keys
 after_settings document known e =
     passed (unknown_key [] top_keys document) (after_keys document) known
     ∙ passed-append (map (option_map file_fault) (setting_checks document))
-      (result_err (creature_tables document) ∷ checks_of_tables (soup_size_of document) (creature_tables document))
-      (first_fault-map file_fault (setting_checks document) ∙ ap (option_map file_fault) e)
+    (result_err (creature_tables document) ∷ checks_of_tables (soup_size_of document) (creature_tables document))
+    (first_fault-map file_fault (setting_checks document) ∙ ap (option_map file_fault) e)
 
 pub tables-fault : (document : Members) (fault : FileFault) → unknown_key [] top_keys document ≡ None → first_fault (setting_checks document) ≡ None
     → creature_tables document ≡ Err fault → first_fault (checks_of document) ≡ Some fault

@@ -1,6 +1,8 @@
 -- The keys of a soup file, and what is read at one.
-use Rattle.std.specs.Prelude.{ℕ, ℤ, pos, negsuc, ◌&&◌, ◌||◌, Bool, true, false, not, nat_le, List, [], ◌∷◌, ◌++◌, codes, find, if◌then◌else◌, ok_or, option_map, bytes_eq, Option, Some, None, Result, Ok, Err}
+use Rattle.std.specs.Prelude.{ℕ, ℤ, pos, negsuc, ◌&&◌, ◌||◌, Bool, true, false, not, nat_le, List, [], ◌∷◌, ◌++◌, codes, filter, if◌then◌else◌, ok_or, option_map, bytes_eq, Option, Some, None, Result, Ok, Err}
+use Rattle.std.specs.Cmp.Lexicographic.{slice_cmp}
 use Rattle.std.specs.List.{list_any}
+use Rattle.std.specs.Ordering.{is_lt, nat_cmp}
 use Rattle.hex.specs.Hex.{decode_sized}
 use Rattle.hex.specs.declared.error.FromHexError.{FromHexError}
 use Rattle.toml.specs.Data.{Data, Members, no_members, member, get_member, as_bool, as_integer, as_str}
@@ -106,9 +108,18 @@ keys_of (member k d ms) = k ∷ keys_of ms
 unfoldable pub names_one_of : List Key → List ℕ → Bool
 names_one_of keys name = list_any (λ key. bytes_eq name (name_of key)) keys
 
--- The first key of a table that is none of these. A table has its keys in the order of their bytes, so it is the least.
+-- the least of some names, by their bytes
+abbrev pub lesser : List ℕ → Option (List ℕ) → List ℕ
+lesser name None = name
+lesser name (Some other) = if is_lt (slice_cmp nat_cmp name other) then name else other
+
+abbrev pub least : List (List ℕ) → Option (List ℕ)
+least [] = None
+least (name ∷ names) = Some (lesser name (least names))
+
+-- the least key of a table that is none of these
 unfoldable pub unknown_in : List Key → Members → Option (List ℕ)
-unknown_in keys members = find (λ name. not (names_one_of keys name)) (keys_of members)
+unknown_in keys members = least (filter (λ name. not (names_one_of keys name)) (keys_of members))
 
 -- its fault
 abbrev pub unknown_key : List ℕ → List Key → Members → Option FileFault

@@ -2,3 +2,4 @@ pub mod Keys
 pub mod Settings
 pub mod Creatures
 pub mod SoupFile
+pub mod Laws

@@ -33,8 +33,8 @@ unfoldable pub checks_of : Members → List (Option FileFault)
 checks_of document =
     unknown_key [] top_keys document
     ∷ (map (option_map file_fault) (setting_checks document)
-      ++ result_err (creature_tables document)
-      ∷ checks_of_tables (soup_size_of document) (creature_tables document))
+    ++ result_err (creature_tables document)
+    ∷ checks_of_tables (soup_size_of document) (creature_tables document))
 
 -- the document tells the setup
 pub record IsSetupOf (document : Members) (setup : SetupFields) : Type 0 where

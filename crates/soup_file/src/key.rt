@@ -8,7 +8,7 @@ use std::alloc::Global;
 use tierra_model::{OutOfMemory, Text};
 
 /// A key that a soup file may have.
-#[derive(Clone, Copy, Debug, Drop, PartialEq, Eq)]
+#[derive(Clone, Copy, Drop)]
 pub(crate) enum Key {
     SoupSize,
     SliceSize,
@@ -88,7 +88,7 @@ impl Key {
 }
 
 /// What is wrong at a key.
-#[derive(Clone, Copy, Debug, Drop, PartialEq, Eq)]
+#[derive(Clone, Copy, Drop)]
 pub(crate) enum KeyFault {
     Missing(Key),
     WrongKind(Key),

@@ -4,9 +4,14 @@
 mod creatures;
 mod fault;
 mod key;
+mod laws;
 mod reading;
 mod settings;
 mod value;
 
 pub use fault::FileFault;
+pub use laws::soup_files_are_clear;
 pub use reading::read_setup;
+
+#[cfg(test)]
+mod tests;

@@ -1,6 +1,7 @@
 //! What is read at a key of a table.
 
-ghost use Rattle.std.specs.Prelude.{◌≡◌, ◌⊎◌, ◌≤◌, Err, IfErr, IfOk, None, Ok, OnOk, Some, find, not, option_copied, option_map, string_bytes};
+ghost use Rattle.std.specs.Prelude.{◌≡◌, ◌⊎◌, ◌≤◌, Err, IfErr, IfOk, None, Ok, OnOk, Some, find, not, option_copied, option_map, string_bytes, string_cmp};
+ghost use Rattle.std.specs.List.Sorted.{IsStrictlySortedBy};
 ghost use Rattle.std.specs.BTreeMap.{keys};
 ghost use Rattle.toml.specs.Data.{get_member};
 ghost use Rattle.toml.specs.View.{table_view, view};
@@ -142,7 +143,8 @@ pub(crate) fn check_keys(
 }
 
 fn unknown_in<'a>(table: &'a Table, known: &[Key]) -> Option<&'a String>
-    ensures { option_copied result ≡ find (λ name. not (names_one_of known.now (string_bytes name))) (keys table.now) }
+    ensures first { option_copied result ≡ find (λ name. not (names_one_of known.now (string_bytes name))) (keys table.now) }
+    ensures ordered { IsStrictlySortedBy string_cmp (keys table.now) }
 {
     table
         .keys()

@@ -57,12 +57,12 @@ overflow_add-result c =
 pub returns-in-Some-clause-fault : goal.returns-in-Some-clause-fault
 returns-in-Some-clause-fault c =
     inr
-      (subst
-        (λ (n : ℕ). first_fault (creature_checks c.args.soup_size (map Some c.args.creatures.now.items) (n + 1, table_view c.args.table.now))
-          ≡ Some (Overlap (c.in-Some.place + 1) (c.len.result + 1)))
-        (counted ((goal.at.returns-in-Some-clause-fault c).After-len))
-        (overlaps c.args.soup_size (c.len.result + 1) c.in-Some.place c.args.creatures.now.items (table_view c.args.table.now) c.in_ok-creature.creature
-          c.in_ok-creature.ensures.passed c.in_ok-creature.ensures.creature (found ((goal.at.returns-in-Some-clause-fault c).In-Some))))
+    (subst
+    (λ (n : ℕ). first_fault (creature_checks c.args.soup_size (map Some c.args.creatures.now.items) (n + 1, table_view c.args.table.now))
+    ≡ Some (Overlap (c.in-Some.place + 1) (c.len.result + 1)))
+    (counted ((goal.at.returns-in-Some-clause-fault c).After-len))
+    (overlaps c.args.soup_size (c.len.result + 1) c.in-Some.place c.args.creatures.now.items (table_view c.args.table.now) c.in_ok-creature.creature
+    c.in_ok-creature.ensures.passed c.in_ok-creature.ensures.creature (found ((goal.at.returns-in-Some-clause-fault c).In-Some))))
 
 -- there is none
 alone : (c : In_default) → position (λ d. share_a_cell d c.in_ok-creature.creature) c.args.creatures.now.items ≡ None
@@ -73,12 +73,12 @@ pub returns-clause-apart : goal.returns-clause-apart
 returns-clause-apart c =
     subst (LieApart c.args.soup_size) (sym c.in_ok-push.ensures.items)
     (apart-push c.args.soup_size c.args.creatures.now.items c.in_ok-creature.creature c.requires.apart c.in_ok-creature.ensures.code
-      c.in_ok-creature.ensures.placed (alone ((goal.at.returns-clause-apart c).In_default)))
+    c.in_ok-creature.ensures.placed (alone ((goal.at.returns-clause-apart c).In_default)))
 
 pub returns-clause-passed : goal.returns-clause-passed
 returns-clause-passed c =
     subst
-      (λ (n : ℕ). first_fault (creature_checks c.args.soup_size (map Some c.args.creatures.now.items) (n + 1, table_view c.args.table.now)) ≡ None)
-      (counted ((goal.at.returns-clause-passed c).After-len))
-      (passes-all c.args.soup_size (c.len.result + 1) c.args.creatures.now.items (table_view c.args.table.now) c.in_ok-creature.creature
-        c.in_ok-creature.ensures.passed c.in_ok-creature.ensures.creature (alone ((goal.at.returns-clause-passed c).In_default)))
+    (λ (n : ℕ). first_fault (creature_checks c.args.soup_size (map Some c.args.creatures.now.items) (n + 1, table_view c.args.table.now)) ≡ None)
+    (counted ((goal.at.returns-clause-passed c).After-len))
+    (passes-all c.args.soup_size (c.len.result + 1) c.args.creatures.now.items (table_view c.args.table.now) c.in_ok-creature.creature
+    c.in_ok-creature.ensures.passed c.in_ok-creature.ensures.creature (alone ((goal.at.returns-clause-passed c).In_default)))

@@ -23,7 +23,7 @@ returns-in_err-add_creature-clause-fault c =
     let l = within at in
     let e = there at in
     let up = λ (f : FileFault). read-fault c.args.soup_size (map (λ t. table_view t.now) c.args.tables.now) c.loop-table.table-index c.loop-table.items.items
-        (table_view c.table-item.result.now) f l e c.loop-table.invariant in
+    (table_view c.table-item.result.now) f l e c.loop-table.invariant in
     grind (arith, common_steps, up)
 
 pub loop-table-preserved : goal.loop-table-preserved
@@ -31,8 +31,8 @@ loop-table-preserved c =
     let at = (goal.at.loop-table-preserved c).After-add_creature in
     let added = c.in_ok-add_creature.ensures.added in
     read-more c.args.soup_size (map (λ t. table_view t.now) c.args.tables.now) c.loop-table.table-index c.loop-table.items.items
-      c.add_creature.new.creatures.items (table_view c.table-item.result.now) added.0 (within at) (there at) c.loop-table.invariant added.1
-      c.in_ok-add_creature.ensures.apart added.2 c.in_ok-add_creature.ensures.passed
+    c.add_creature.new.creatures.items (table_view c.table-item.result.now) added.0 (within at) (there at) c.loop-table.invariant added.1
+    c.in_ok-add_creature.ensures.apart added.2 c.in_ok-add_creature.ensures.passed
 
 pub returns-clause-creatures : goal.returns-clause-creatures
 returns-clause-creatures c =

@@ -14,8 +14,8 @@ or_fault f (inr b) = inr (f b)
 pub returns-in-Err-clause-fault : goal.returns-in-Err-clause-fault
 returns-in-Err-clause-fault c =
     or_fault
-      (λ e. settings-fault (table_view c.args.document.now) c.in-Err.fault c.in_ok-check_keys.ensures.passed c.in-Err.ensures.fault ∙ ap Some (sym e))
-      c.in_file.ensures
+    (λ e. settings-fault (table_view c.args.document.now) c.in-Err.fault c.in_ok-check_keys.ensures.passed c.in-Err.ensures.fault ∙ ap Some (sym e))
+    c.in_file.ensures
 
 pub returns-in_err-tables-clause-fault : goal.returns-in_err-tables-clause-fault
 returns-in_err-tables-clause-fault c =
@@ -25,14 +25,14 @@ returns-in_err-tables-clause-fault c =
 pub returns-in_err-creatures-clause-fault : goal.returns-in_err-creatures-clause-fault
 returns-in_err-creatures-clause-fault c =
     let same = creatures-checks (table_view c.args.document.now) c.in-Ok.settings.soup_size (map (λ t. table_view t.now) c.in_ok-tables.tables.items)
-        c.in_ok-check_keys.ensures.passed c.in-Ok.ensures.passed c.in-Ok.ensures.settings.soup_size c.in_ok-tables.ensures.tables in
+    c.in_ok-check_keys.ensures.passed c.in-Ok.ensures.passed c.in-Ok.ensures.settings.soup_size c.in_ok-tables.ensures.tables in
     let slice = ap (λ ts. first_fault (all_creature_checks c.in-Ok.settings.soup_size (map (λ t. table_view t.now) ts))) c.as_slice.ensures.value in
     grind (arith, common_steps, same, slice)
 
 pub invariant_of-result : goal.invariant_of-result
 invariant_of-result c =
     let inocula = c.in_ok-creatures.ensures.creatures
-        ∙ ap (λ ts. inocula_of c.in-Ok.settings.soup_size (map (λ t. table_view t.now) ts)) c.as_slice.ensures.value in
+    ∙ ap (λ ts. inocula_of c.in-Ok.settings.soup_size (map (λ t. table_view t.now) ts)) c.as_slice.ensures.value in
     record {
       some = creature-there (table_view c.args.document.now) c.in-Ok.settings.soup_size (map (λ t. table_view t.now) c.in_ok-tables.tables.items)
           c.in_ok-creatures.creatures c.in_ok-tables.ensures.tables inocula;
