@@ -1,7 +1,7 @@
 -- Cells copied out of a soup, and a code put into it, one cell after another.
 use Rattle.std.proofs.Common.{◌≡◌, ℕ, suc, ◌+◌, ◌-◌, ◌<◌, ◌≤◌, List, [], ◌∷◌, ◌++◌, refl, sym, ◌∙◌, ap, arith, append_assoc, drop, drop-cons, get_or, length, length-append, set, take}
 use Rattle.std.proofs.Math.Seq.{set-append_seam}
-use Rattle.std.proofs.lemmas.List.{get_or-drop, length-drop, length-take, take_more}
+use Rattle.std.proofs.lemmas.List.{get_or-drop, length-drop, length-take, take-append-drop, take_more}
 use Rattle.std.specs.Prelude.{slice_range}
 use Rattle.tierra_model.specs.Serial.{overwrite}
 
@@ -27,7 +27,12 @@ length-overwrite xs at ys h =
 
 -- nothing is put in
 pub overwrite-none : (xs : List ℕ) (at : ℕ) → overwrite xs at [] ≡ xs
-overwrite-none xs at = ?
+overwrite-none xs at =
+    ap (λ (l : List ℕ). l ++ drop (at + 0) xs) (append_nil (take at xs)) ∙ ap (λ (k : ℕ). take at xs ++ drop k xs) (let e : at + 0 ≡ at = omega arith in e) ∙ take-append-drop at xs
+  where
+    append_nil : (l : List ℕ) → l ++ [] ≡ l
+    append_nil [] = refl
+    append_nil (x ∷ xs) = ap (λ (l : List ℕ). x ∷ l) (append_nil xs)
 
 -- one cell more is put in
 pub overwrite-more : (xs : List ℕ) (at : ℕ) (ys : List ℕ) (i : ℕ) → i < length ys → at + length ys ≤ length xs

@@ -9,3 +9,5 @@ pub mod Numbered
 pub mod Cells
 pub mod Starting
 pub mod Registers
+pub mod Replaying
+pub mod Preparing

@@ -83,8 +83,11 @@ owned_is_not_free n xs p h some =
 pub free_is_not_owned : (n : ℕ) (xs : List Creature) (p : ℕ) → p < n → is_owned xs p ≡ false → is_in_some (free_cells n xs) p ≡ true
 free_is_not_owned n xs p h none = runs_of_in n (λ p. not (is_owned xs p)) p h ∙ ap not none
 
+pub below_end : (n : ℕ) (b : Block) (p : ℕ) → b.at + b.size ≤ n → is_in b p ≡ true → p < n
+below_end n b p k h = grind (arith, nat_tests)
+
 pub in_block : (n : ℕ) (b : Block) (p : ℕ) → IsBlock n b → is_in b p ≡ true → p < n
-in_block n b p k h = let end : b.at + b.size ≤ n = k.2 in grind (arith, nat_tests)
+in_block n b p k h = below_end n b p k.2 h
 
 -- the runs of a list of free runs are that list
 pub runs-again : (n : ℕ) (free : List Block) (test : ℕ → Bool) → free ≡ runs_of n test → free ≡ runs_of n (λ p. is_in_some free p)
@@ -138,3 +141,20 @@ held_apart living x p here once found apart own =
     go : (b : Bool) → one_if b ≤ 0 → b ≡ false
     go true h = absurd (let one : 1 ≤ 0 = h in omega arith)
     go false h = refl
+
+-- ---- tests of the cells of a creature
+
+pub holds_daughter : (x : Creature) (p : ℕ) → is_in_daughter x.daughter p ≡ true → holds x p ≡ true
+holds_daughter x p h = ap (λ (t : Bool). is_in x.own p || t) h ∙ always (is_in x.own p)
+  where
+    always : (b : Bool) → (b || true) ≡ true
+    always true = refl
+    always false = refl
+
+pub not_own : (a b : Bool) → (a ≡ true → b ≡ false) → b ≡ true → a ≡ false
+not_own false b h e = refl
+not_own true b h e = (let no : false ≡ true = sym (h refl) ∙ e in cc)
+
+pub regroup : (a b c : Bool) → ((a || b) || c) ≡ (a || (b || c))
+regroup true b c = refl
+regroup false b c = refl

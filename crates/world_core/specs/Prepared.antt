@@ -1,10 +1,11 @@
 -- What a replay needs, and when it is at hand.
-use Rattle.std.specs.Prelude.{List, None, Option, Some, [], length, slice_range, slice_set, true, ℕ, ◌++◌, ◌+◌, ◌<◌, ◌^◌, ◌∷◌, ◌≡◌, ◌≤◌}
+use Rattle.std.specs.Prelude.{List, None, Option, Some, [], if◌then◌else◌, length, slice_range, slice_set, true, ℕ, ◌++◌, ◌+◌, ◌-◌, ◌<◌, ◌^◌, ◌∷◌, ◌≡◌, ◌≤◌}
 use Rattle.tierra_model.specs.declared.creatures.Block.{Block}
 use Rattle.tierra_model.specs.declared.creatures.Creature.{Creature}
 use Rattle.tierra_model.specs.declared.events.Event.{Event}
 use Rattle.tierra_model.specs.declared.events.Event.TheVariants as event
 use Rattle.tierra_model.specs.Counting.{sum_of}
+use Rattle.tierra_model.specs.Blocks.{is_in}
 use Rattle.tierra_model.specs.World.{World, front}
 use Rattle.tierra_model.specs.Events.{apply_event}
 use Rattle.tierra_model.specs.Replay.{EventsFit}
@@ -23,9 +24,12 @@ daughter_codes None soup = []
 daughter_codes (Some b) soup = slice_range soup b.at (b.at + b.size) ∷ []
 
 -- the code of the creature that the event brings, if it brings one
+abbrev pub code_at : Event → Option Block → List ℕ → List (List ℕ)
+code_at (event.Divide ran moved) held soup = daughter_codes held soup
+code_at _ held soup = []
+
 abbrev pub code_born : World → Event → List (List ℕ)
-code_born w (event.Divide ran moved) = daughter_codes (front w).daughter w.soup
-code_born w _ = []
+code_born w e = code_at e (front w).daughter w.soup
 
 -- the codes of all whom the events bring, one event after another
 abbrev pub codes_born : World → List Event → List (List ℕ)
@@ -40,6 +44,16 @@ with_write _ soup = soup
 abbrev pub with_writes : List Event → List ℕ → List ℕ
 with_writes [] soup = soup
 with_writes (e ∷ es) soup = with_writes es (with_write e soup)
+
+-- the code of a block after an event
+abbrev pub written_into : Block → Event → List ℕ → List ℕ
+written_into b (event.Write at value) code = if is_in b at then slice_set code (at - b.at) value else code
+written_into b _ code = code
+
+-- the cell that an event writes is one of n
+abbrev pub WritesBelow : ℕ → Event → Type 0
+WritesBelow n (event.Write at value) = at < n
+WritesBelow n _ = Unit {0}
 
 -- the daughter block that is held after an event, where this one was held before
 abbrev pub daughter_after : Event → Option Block → Option Block

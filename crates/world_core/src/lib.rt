@@ -4,8 +4,10 @@
 mod genes;
 mod living;
 mod population;
+mod prepared;
 mod running;
 mod world;
 
+pub use prepared::Prepared;
 pub use running::Running;
 pub use world::World;

@@ -268,6 +268,15 @@ impl Running {
         code_of(alloc, &self.soup, block)
     }
 
+    /// The code that a block has now.
+    pub(crate) fn block_code(&self, alloc: Global, block: Block) -> Result<Code, OutOfMemory>
+        requires lies { block.at + block.size ≤ length self.now.world.soup }
+        requires small { length self.now.world.soup < 2 ^ 32 }
+        ensures { IfOk result (λ code. code ≡ slice_range self.now.world.soup block.at (block.at + block.size)) }
+    {
+        code_of(alloc, &self.soup, block)
+    }
+
     // ---- room
 
     /// Makes room for as many births, and for as many blocks taken or given back.

@@ -20,7 +20,7 @@ use tierra_model::{Block, Code, Creature, Effort, Now, OutOfMemory, Settings, Se
 /// A sound world, in which no quantum runs.
 #[derive(Drop)]
 pub struct World {
-    running: Running,
+    pub(crate) running: Running,
 }
 
 impl Model for World {
@@ -92,6 +92,13 @@ impl World {
         ensures { option_copied result ≡ option_map (one_of self.now.world.living) (slice_get self.now.world.slicer k) }
     {
         self.running.place(k)
+    }
+
+    /// How many creatures live.
+    pub fn living(&self) -> u32
+        ensures { result ≡ length self.now.world.living }
+    {
+        self.running.reaper_len()
     }
 
     /// How many cells are in blocks and daughter blocks of the living.

@@ -1,11 +1,15 @@
 use Rattle.std.proofs.Common.{◌≡◌, ◌==◌, ◌∙◌, Some, None, ap, subst, sym}
 use Rattle.std.specs.Prelude.{find}
+use Rattle.std.specs.Option.{option_copied}
 use Rattle.world_core.specs.Living.{LivingFields}
 use Rattle.world_core.proofs.BirthNumbers.{found-at, none-found}
 use Rattle.world_core.proofs.living.Living.get.Goals as goal
 
 pub returns-in_err-place : goal.returns-in_err-place
-returns-in_err-place c = ?
+returns-in_err-place c =
+    rw c.from_residual.ensures
+    (sym (subst (λ (l : LivingFields). find (λ x. x.id == c.args.id) l.creatures ≡ None) c.self.view_is
+    (none-found c.args.id c.self.inside.creatures.items c.in_err-place.ensures.none)))
 
 pub returns : goal.returns
 returns c =

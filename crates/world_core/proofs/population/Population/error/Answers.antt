@@ -36,7 +36,11 @@ error-requires-clause-small c =
     omega arith
 
 pub invariant_of-self : goal.invariant_of-self
-invariant_of-self c = ?
+invariant_of-self c =
+    let m = moved ((goal.at.invariant_of-self c).After-error) in
+    m.shows ∙ (λ i. entries_of (sym c.put.ensures.creatures i) (sym m.holds i))
 
 pub returns-clause-reaper : goal.returns-clause-reaper
-returns-clause-reaper c = ?
+returns-clause-reaper c =
+    (moved ((goal.at.returns-clause-reaper c).After-error)).holds
+    ∙ ap (λ (p : PopulationFields). error_move (λ id. id == c.args.creature.id) (λ id. (one_of (with_record c.args.creature p.living) id).errors) p.reaper) c.self.view_is

@@ -12,11 +12,13 @@ use Rattle.tierra_model.specs.Sound.{IsPlaced, owners}
 use Rattle.world_core.specs.Running.{IsRunning, WorldFields}
 use Rattle.world_core.specs.Tied.{AreTied}
 use Rattle.world_core.specs.contracts.running.Running.{the_view}
-use Rattle.world_core.proofs.Within.{front_placed, here_front, one_front, queued_front, small_front}
-use Rattle.world_core.proofs.Ownership.{free_is_not_owned, in_block, owned_is_not_free}
-use Rattle.world_core.proofs.Tying.{Puts, tied-died, tied-given_up, tied-put, tied-taken}
-use Rattle.world_core.proofs.EventWorlds.{after-err, after-give_up, after-good, after-mal, after-reap, with_lists}
+use Rattle.world_core.proofs.Within.{daughter_block, placed_front}
 use Rattle.world_core.proofs.running.Running.daughter_code.Goals as goal
 
 pub code_of-requires-clause-lies : goal.code_of-requires-clause-lies
-code_of-requires-clause-lies c = ?
+code_of-requires-clause-lies c =
+    let r : IsRunning (the_view c.self.inside).world = subst (λ (h : WorldFields). IsRunning h.world) (sym c.self.view_is) c.requires.within in
+    let x = c.front.result.now in
+    let b = c.unwrap-block.result in
+    let lies : b.at + b.size ≤ c.self.inside.settings.soup_size = (daughter_block _ x b (placed_front _ x r c.front.ensures) c.unwrap-block.ensures).2 in
+    rw r.cells lies

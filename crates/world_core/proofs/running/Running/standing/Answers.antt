@@ -12,11 +12,11 @@ use Rattle.tierra_model.specs.Sound.{IsPlaced, owners}
 use Rattle.world_core.specs.Running.{IsRunning, WorldFields}
 use Rattle.world_core.specs.Tied.{AreTied}
 use Rattle.world_core.specs.contracts.running.Running.{the_view}
-use Rattle.world_core.proofs.Within.{front_placed, here_front, one_front, queued_front, small_front}
-use Rattle.world_core.proofs.Ownership.{free_is_not_owned, in_block, owned_is_not_free}
-use Rattle.world_core.proofs.Tying.{Puts, tied-died, tied-given_up, tied-put, tied-taken}
-use Rattle.world_core.proofs.EventWorlds.{after-err, after-give_up, after-good, after-mal, after-reap, with_lists}
+use Rattle.world_core.proofs.Within.{reaped_here}
 use Rattle.world_core.proofs.running.Running.standing.Goals as goal
 
 pub at-creature-requires-clause-here : goal.at-creature-requires-clause-here
-at-creature-requires-clause-here c = ?
+at-creature-requires-clause-here c =
+    reaped_here (the_view c.self.inside).world c.args.place
+    (subst (λ (h : WorldFields). (id : ℕ) → times_in h.world.reaper id ≡ times_in (ids_of h.world.living) id) (sym c.self.view_is) c.requires.here)
+    (subst (λ (h : WorldFields). c.args.place < length h.world.reaper) (sym c.self.view_is) c.requires.within)
