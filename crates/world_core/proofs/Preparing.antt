@@ -27,7 +27,8 @@ can-at w (e ∷ es) zero d h c = c.0
 can-at w (e ∷ es) (suc i) d h c = can-at (apply_event w e) es i d (omega arith) c.1
 
 pub can-first : (w : World) (es : List Event) (i : ℕ) → CanAllHappen w es → CanAllHappen w (take i es)
-can-first w [] i c = tt
+can-first w [] zero c = tt
+can-first w [] (suc i) c = tt
 can-first w (e ∷ es) zero c = tt
 can-first w (e ∷ es) (suc i) c = (c.0, can-first (apply_event w e) es i c.1)
 

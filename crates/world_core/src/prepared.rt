@@ -65,8 +65,13 @@ impl World {
         requires { IsReady prepared self.old }
         ensures { self.new.world ≡ replay prepared.events prepared.after self.old.world }
     {
-        do_all(&mut self.running, &prepared.events.items, prepared.codes);
-        self.running.put(prepared.after);
+        let Prepared {
+            events,
+            after,
+            codes,
+        } = prepared;
+        do_all(&mut self.running, &events.items, codes);
+        self.running.put(after);
         self.running.turn_end();
     }
 }

@@ -1,9 +1,10 @@
 //! The world between two quanta.
 
-ghost use Rattle.std.specs.Prelude.{◌≡◌, ◌==◌, ◌<◌, ◌≤◌, ℕ, IfOk, find, length, option_copied, option_map, slice_get};
+ghost use Rattle.std.specs.Prelude.{◌≡◌, ◌==◌, ◌<◌, ◌≤◌, ℕ, IfOk, OnOk, find, length, option_copied, option_map, slice_get};
 ghost use Rattle.tierra_model.specs.Living.{one_of};
 ghost use Rattle.tierra_model.specs.Room.{filled, is_owned};
-ghost use Rattle.tierra_model.specs.Serial.{start};
+ghost use Rattle.tierra_model.specs.Serial.{empty_world, start, with_inocula};
+ghost use Rattle.tierra_model.specs.Setups.{IsSetup};
 ghost use Rattle.tierra_model.specs.Sound.{IsSound};
 ghost use Rattle.tierra_model.specs.World.{genotype_at};
 ghost use Rattle.census.specs.Census.{living_of};
@@ -15,7 +16,9 @@ use genotyper::Genotypes;
 use soup_cells::Version;
 use std::alloc::Global;
 use std::marker::Model;
-use tierra_model::{Block, Code, Creature, Effort, Now, OutOfMemory, Settings, Setup, Standing};
+use tierra_model::{
+    Block, Code, Creature, Effort, Inoculum, Now, OutOfMemory, SeedList, Settings, Setup, Standing,
+};
 
 /// A sound world, in which no quantum runs.
 #[derive(Drop)]
@@ -40,10 +43,8 @@ impl World {
         ensures { IfOk result (λ w. w.world ≡ start setup.now) }
     {
         let mut running = Running::empty(alloc, &setup.settings)?;
-        for inoculum in setup.creatures.items.iter() {
-            running.reserve(1, 1)?;
-            running.inoculate(inoculum.at, copied(alloc, &inoculum.code)?)?;
-        }
+        let seeds: &SeedList = &setup.creatures;
+        inoculate_all(alloc, &mut running, &seeds.items)?;
         Ok(World { running })
     }
 
@@ -190,6 +191,24 @@ impl Running {
     {
         World { running: self }
     }
+}
+
+// Puts creatures into a world in which nobody is yet.
+fn inoculate_all(
+    alloc: Global,
+    running: &mut Running,
+    creatures: &[Inoculum],
+) -> Result<(), OutOfMemory>
+    requires setup { IsSetup (record { settings = running.old.world.settings; creatures = creatures.now }) }
+    requires empty { running.old.world ≡ empty_world running.old.world.settings }
+    ensures { OnOk result (running.new.world ≡ with_inocula creatures.now running.old.world) }
+{
+    for inoculum in creatures {
+        running.reserve(1, 1)?;
+        let code = copied(alloc, &inoculum.code)?;
+        running.inoculate(inoculum.at, code)?;
+    }
+    Ok(())
 }
 
 // A code of its own.

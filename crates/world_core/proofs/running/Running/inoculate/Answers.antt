@@ -1,4 +1,4 @@
-use Rattle.std.proofs.Common.{◌≡◌, ◌∙◌, ◌<◌, ◌≤◌, ◌+◌, ◌^◌, ◌==◌, ℕ, List, true, false, None, Some, ap, arith, length, refl, subst, sym}
+use Rattle.std.proofs.Common.{◌≡◌, ◌∙◌, ◌<◌, ◌≤◌, ◌+◌, ◌^◌, ◌==◌, ℕ, List, true, false, None, Some, ap, arith, length, refl, rules, subst, sym}
 use Rattle.std.specs.Prelude.{slice_index}
 use Rattle.tierra_model.specs.declared.creatures.Creature.{Creature}
 use Rattle.tierra_model.specs.declared.events.Event.TheVariants as event
@@ -28,7 +28,7 @@ take-requires-clause-free c p h =
     let can : CanInoculate (the_view c.self.inside).world c.args.at c.args.code
     = subst (λ (k : WorldFields). CanInoculate k.world c.args.at c.args.code) (sym c.self.view_is) c.requires.can in
     let n = c.self.inside.settings.soup_size in
-    let size : c.len.result ≡ length c.args.code = ? in
+    let size : c.len.result ≡ length c.args.code = search rules in
     let here : is_in (record { at = c.args.at; size = length c.args.code }) p ≡ true
     = ap (λ (k : ℕ). is_in (record { at = c.args.at; size = k }) p) (sym size) ∙ h in
     let below : p < n = below_end n (record { at = c.args.at; size = length c.args.code }) p can.lies here in
