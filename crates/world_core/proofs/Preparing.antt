@@ -1,9 +1,9 @@
 -- What is prepared: the daughter block that is held and the cells as events are done, and the codes of the newborns.
-use Rattle.std.proofs.Common.{◌≡◌, ℕ, zero, suc, ◌+◌, ◌-◌, ◌<◌, ◌≤◌, Bool, true, false, List, [], ◌∷◌, ◌++◌, refl, sym, ◌∙◌, ap, append_assoc, arith, drop, get_or, length, set, take}
+use Rattle.std.proofs.Common.{◌≡◌, ℕ, zero, suc, ◌+◌, ◌-◌, ◌*◌, ◌^◌, ◌<◌, ◌≤◌, Bool, true, false, List, [], ◌∷◌, ◌++◌, refl, sym, ◌∙◌, ap, append_assoc, arith, drop, get_or, length, set, subst, take}
 use Rattle.std.proofs.Math.Seq.{take-set-lt}
 use Rattle.std.proofs.lemmas.List.{drop-set-add, drop-set-lt, length-set, take-set-le}
 use Rattle.std.proofs.lemmas.Bool.Decides.{nat_tests}
-use Rattle.std.specs.Prelude.{None, Option, Some, if◌then◌else◌, nat_le, nat_lt, slice_range, slice_set, ◌&&◌}
+use Rattle.std.specs.Prelude.{IfSome, None, Option, Some, if◌then◌else◌, nat_le, nat_lt, slice_range, slice_set, ◌&&◌}
 use Rattle.tierra_model.specs.declared.creatures.Block.{Block}
 use Rattle.tierra_model.specs.declared.creatures.Creature.{Creature}
 use Rattle.tierra_model.specs.declared.events.Event.{Event}
@@ -15,9 +15,17 @@ use Rattle.tierra_model.specs.Events.{apply_event, record_after}
 use Rattle.tierra_model.specs.Replay.{CanAllHappen, CanHappen, after_events}
 use Rattle.tierra_model.proofs.Commutes.{HasFront}
 use Rattle.tierra_model.proofs.EventsKeep.{front-event}
-use Rattle.tierra_model.proofs.EventEffects.{soup-event, soup_after}
-use Rattle.world_core.specs.Running.{WorldFields}
-use Rattle.world_core.specs.Prepared.{CanWrite, CanWriteAll, code_at, code_born, codes_born, daughter_after, with_write, with_writes, written_into}
+use Rattle.tierra_model.specs.declared.parameters.Settings.{Settings}
+use Rattle.tierra_model.specs.Ranges.{IsBlock}
+use Rattle.tierra_model.specs.Sound.{IsSound, count_limit}
+use Rattle.tierra_model.proofs.BetweenEvents.{within-events}
+use Rattle.tierra_model.proofs.EventEffects.{settings-event, soup-event, soup_after}
+use Rattle.tierra_model.proofs.Population.{front-in_bounds}
+use Rattle.tierra_model.proofs.Sound.{within-start}
+use Rattle.tierra_model.proofs.WithinQuantum.{WithinQuantum}
+use Rattle.world_core.proofs.Within.{running-within}
+use Rattle.world_core.specs.Running.{IsRunning, WorldFields}
+use Rattle.world_core.specs.Prepared.{CanWrite, CanWriteAll, WritesBelow, code_at, code_born, codes_born, daughter_after, with_write, with_writes, written_into}
 
 -- ---- an event of a list, and those before it
 
@@ -121,3 +129,47 @@ can_write-append h (x ∷ xs) e c d = (c.0, can_write-append h xs e c.1 d)
 pub sum-append : (f : Event → ℕ) (xs : List Event) (e : Event) → sum_of f (xs ++ e ∷ []) ≡ sum_of f xs + f e
 sum-append f [] e = omega arith
 sum-append f (x ∷ xs) e = omega (arith, sum-append f xs e)
+
+-- ---- events that can happen in a sound world
+
+below-event : (w : World) (e : Event) (n : ℕ) → w.settings.soup_size ≡ n → CanHappen w e → WritesBelow n e
+below-event w (event.Write at value) n same c = subst (λ (k : ℕ). at < k) same c.0
+below-event w event.Err n same c = tt
+below-event w event.Good n same c = tt
+below-event w event.GiveUp n same c = tt
+below-event w (event.Mal at size) n same c = tt
+below-event w (event.Reap place) n same c = tt
+below-event w (event.Divide ran moved) n same c = tt
+
+pub writes-below : (w : World) (es : List Event) (i : ℕ) (d : Event) (n : ℕ) → w.settings.soup_size ≡ n → i < length es → CanAllHappen w es → WritesBelow n (get_or es i d)
+writes-below w [] i d n same h c = absurd (omega arith)
+writes-below w (e ∷ es) zero d n same h c = below-event w e n same c.0
+writes-below w (e ∷ es) (suc i) d n same h c =
+    writes-below (apply_event w e) es i d n (ap (λ (s : Settings). s.soup_size) (settings-event w e) ∙ same) (omega arith) c.1
+
+abbrev limit : World → ℕ
+limit w = count_limit w.quanta
+
+-- the world within its quantum after the events
+within-after : (w : World) (es : List Event) → IsSound w → CanAllHappen w es
+    → WithinQuantum w.settings (limit w + length es) (limit w) (limit w + length es) (0 + 20100 * length es) (w.quanta + 1) (after_events w es)
+within-after w es s c = within-events w.settings (limit w) (limit w) (limit w) 0 (w.quanta + 1) es w (within-start w s) c
+
+pub running-after : (w : World) (es : List Event) → IsSound w → CanAllHappen w es → length es < 2 ^ 31 → IsRunning (after_events w es)
+running-after w es s c few =
+    let past : w.quanta ≤ 4000000 = s.quanta in
+    running-within w.settings (limit w + length es) (limit w) (limit w + length es) (0 + 20100 * length es) (w.quanta + 1) (after_events w es) (within-after w es s c) (omega arith) (omega arith) (omega arith)
+
+pub front-after : (w : World) (es : List Event) → IsSound w → CanAllHappen w es → HasFront (after_events w es)
+front-after w es s c = (within-after w es s c).population.has_front
+
+-- a daughter block that is held lies in the soup
+pub held-lies : (w : World) (es : List Event) → IsSound w → CanAllHappen w es → IfSome (front (after_events w es)).daughter (λ b. b.at + b.size ≤ length w.soup)
+held-lies w es s c =
+    let n : ℕ = w.settings.soup_size in
+    let bounds = front-in_bounds n (limit w + length es) (limit w) (limit w + length es) (after_events w es) (within-after w es s c).population in
+    lies (front (after_events w es)).daughter bounds.daughter
+  where
+    lies : (o : Option Block) → IfSome o (IsBlock w.settings.soup_size) → IfSome o (λ b. b.at + b.size ≤ length w.soup)
+    lies None h = tt
+    lies (Some b) h = (let end : b.at + b.size ≤ w.settings.soup_size = h.2 in let cells : length w.soup ≡ w.settings.soup_size = s.cells in omega arith)

@@ -227,19 +227,19 @@ fn code_after(
 {
     let mut code = running.block_code(alloc, block)?;
     for event in events {
-        write_into(&mut code.items, block, *event);
+        write_into(&mut code, block, *event);
     }
     Ok(code)
 }
 
 // Does the event on a block's code.
-fn write_into(code: &mut [u8], block: Block, event: Event)
+fn write_into(code: &mut Code, block: Block, event: Event)
     requires { length code.old ≡ block.size }
     ensures { code.new ≡ written_into block event code.old }
 {
     if let Event::Write { at, value } = event {
         if block.at <= at && at - block.at < block.size {
-            code[(at - block.at) as usize] = value;
+            code.items[(at - block.at) as usize] = value;
         }
     }
 }
