@@ -1,0 +1,67 @@
+-- A cell of the page that is found at its place.
+use Rattle.std.proofs.Common.{◌≡◌, ℕ, ◌*◌, ◌+◌, ◌/◌, ◌%◌, ◌<◌, List, [], get_or, length, map, set, ◌∙◌, ap, sym, subst}
+use Rattle.std.proofs.lemmas.List.{get_or-map, get_or_read, length-map, map-set}
+use Rattle.std.proofs.lemmas.List.Elements.{All-get_or}
+use Rattle.std.specs.List.{concat}
+use Rattle.std.specs.Prelude.{min, slice_range}
+use Rattle.soup_cells.specs.Pages.{AreCells, ArePages}
+use Rattle.soup_cells.proofs.Paged.{cell-at, length-pages, page-cells, pages-set, set-at}
+
+-- the page has the cell
+pub record HasCell {X : Type 0} (f : X → List ℕ) (pages : List X) (at : ℕ) : Type 0 where
+  pub page : at / 4096 < length pages
+  pub place : (x : X) → x ≡ get_or pages (at / 4096) x → at % 4096 < length (f x)
+  pub code : get_or (concat (map f pages)) at 0 < 32
+  pub value : (x : X) → x ≡ get_or pages (at / 4096) x → get_or (f x) (at % 4096) 0 ≡ get_or (concat (map f pages)) at 0
+
+page-is : {X : Type 0} (f : X → List ℕ) (pages : List X) (k : ℕ) (x : X) → k < length pages → x ≡ get_or pages k x → get_or (map f pages) k [] ≡ f x
+page-is f pages k x l e = get_or-map f pages k x [] l ∙ ap f (sym e)
+
+pub has-cell : {X : Type 0} (f : X → List ℕ) (pages : List X) (n at : ℕ) → AreCells n (map f pages) → at < length (concat (map f pages)) → HasCell f pages at
+has-cell f pages n at cells within-cells =
+    let p = cells.paged in
+    let l : at < n = subst (λ (k : ℕ). at < k) (length-pages n (map f pages) p) within-cells in
+    let c = cell-at n at (map f pages) p l in
+    let within : at / 4096 < length pages = subst (λ (k : ℕ). at / 4096 < k) (length-map pages f) c.page in
+    record {
+      page = within;
+      place = λ x e. subst (λ (page : List ℕ). at % 4096 < length page) (page-is f pages (at / 4096) x within e) c.place;
+      code = All-get_or (λ v. v < 32) (concat (map f pages)) at 0 within-cells cells.codes;
+      value = λ x e. ap (λ (page : List ℕ). get_or page (at % 4096) 0) (sym (page-is f pages (at / 4096) x within e)) ∙ sym c.value;
+    }
+
+-- what is read at the cell's place in its page
+pub read-cell : {X : Type 0} (f : X → List ℕ) (pages : List X) (at : ℕ) → HasCell f pages at → (x : X) → x ≡ get_or pages (at / 4096) x
+    → (v : ℕ) → v ≡ get_or (f x) (at % 4096) v → v ≡ get_or (concat (map f pages)) at 0
+read-cell f pages at h x e v is = get_or_read (f x) (at % 4096) v (h.place x e) is 0 ∙ h.value x e
+
+-- the page with the cell set is put back
+pub cell-set : {X : Type 0} (f : X → List ℕ) (pages : List X) (n at v : ℕ) (x y : X) → AreCells n (map f pages) → at < length (concat (map f pages))
+    → x ≡ get_or pages (at / 4096) x → f y ≡ set (f x) (at % 4096) v → concat (map f (set pages (at / 4096) y)) ≡ set (concat (map f pages)) at v
+cell-set f pages n at v x y cells within-cells e written =
+    let within = (has-cell f pages n at cells within-cells).page in
+    let l : at < n = subst (λ (k : ℕ). at < k) (length-pages n (map f pages) cells.paged) within-cells in
+    ap concat (map-set f pages (at / 4096) y)
+    ∙ ap (λ (page : List ℕ). concat (set (map f pages) (at / 4096) page))
+    (written ∙ ap (λ (page : List ℕ). set page (at % 4096) v) (sym (page-is f pages (at / 4096) x within e)))
+    ∙ set-at n at v (map f pages) cells.paged l
+
+-- pages with one of them replaced by one as long
+pub paged-set : {X : Type 0} (f : X → List ℕ) (pages : List X) (n k : ℕ) (x y : X) → ArePages n (map f pages) → k < length pages
+    → x ≡ get_or pages k x → length (f y) ≡ length (f x) → ArePages n (map f (set pages k y))
+paged-set f pages n k x y p l e long =
+    subst (ArePages n) (sym (map-set f pages k y))
+    (pages-set n k (map f pages) (f y) p (long ∙ ap length (sym (page-is f pages k x l e))))
+
+-- the cells of a page
+pub page-at : {X : Type 0} (f : X → List ℕ) (pages : List X) (n k : ℕ) → ArePages n (map f pages) → 4096 * k < length (concat (map f pages))
+    → (k < length pages)
+    × ((x : X) → x ≡ get_or pages k x → f x ≡ slice_range (concat (map f pages)) (4096 * k) (min (4096 * k + 4096) (length (concat (map f pages)))))
+page-at f pages n k p l =
+    let size : n ≡ length (concat (map f pages)) = sym (length-pages n (map f pages) p) in
+    let c = page-cells (map f pages) n k p (subst (λ (m : ℕ). 4096 * k < m) (sym size) l) in
+    let within : k < length pages = subst (λ (m : ℕ). k < m) (length-map pages f) c.0 in (
+      within,
+      λ x e. sym (page-is f pages k x within e) ∙ c.1
+          ∙ ap (λ (m : ℕ). slice_range (concat (map f pages)) (4096 * k) (min (4096 * k + 4096) m)) size,
+    )

@@ -1,0 +1,4 @@
+mod Paged
+mod Indexed
+mod Flags
+mod Zeros

@@ -1,0 +1,9 @@
+//! The cells of a soup, and unchanging versions of them, which share pages.
+#![tactic(auto)]
+
+mod page;
+mod soup;
+mod version;
+
+pub use soup::Soup;
+pub use version::Version;
