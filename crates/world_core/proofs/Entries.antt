@@ -103,7 +103,7 @@ entries-removed id living ids =
     moved (without id living) (filter (λ x. not (x == id)) ids) (filter (λ (x : ℕ × ℕ). not (x.0 == id)) (entries_of living ids))
     (filter-entries id (errors_among living) ids
     ∙ map-filter-cong (entry (errors_among living)) (entry (errors_among (without id living))) id
-      (λ x other. ap (λ (o : Option Creature). (x, (unwrap_or o nobody).errors)) (sym (find-without living x id other))) ids)
+    (λ x other. ap (λ (o : Option Creature). (x, (unwrap_or o nobody).errors)) (sym (find-without living x id other))) ids)
 
 -- ---- a birth
 
@@ -121,8 +121,8 @@ entries-entered c living ids none new absent =
     let after : ℕ → ℕ = errors_among (living ++ c ∷ []) in
     let others : entries_of living ids ≡ map (entry after) ids
     = map-cong-in (entry (errors_among living)) (entry after) ids (λ x here.
-      let other : x ≢ c.id = λ e. absurd (let gone : times_in ids x ≡ 0 = ap (times_in ids) e ∙ absent in omega arith) in
-      ap (λ (o : Option Creature). (x, (unwrap_or o nobody).errors)) (sym (find-entered living c x other))) in
+    let other : x ≢ c.id = λ e. absurd (let gone : times_in ids x ≡ 0 = ap (times_in ids) e ∙ absent in omega arith) in
+    ap (λ (o : Option Creature). (x, (unwrap_or o nobody).errors)) (sym (find-entered living c x other))) in
     let last : after c.id ≡ 0 = ap (λ (o : Option Creature). (unwrap_or o nobody).errors) (find-last living c new) ∙ none in
     moved (living ++ c ∷ []) (ids ++ c.id ∷ []) (entries_of living ids ++ (c.id, 0) ∷ [])
     (ap (λ (l : List (ℕ × ℕ)). l ++ (c.id, 0) ∷ []) others

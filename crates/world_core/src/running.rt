@@ -109,7 +109,8 @@ impl Running {
         self.blocks.take(block);
         let save_at = u64::from(self.settings.save_at);
         let genotype = self.genes.note_birth(code, None, 0, save_at);
-        self.population.enter(newborn(self.next_birth, block, genotype));
+        self.population
+            .enter(newborn(self.next_birth, block, genotype));
         self.census.born(genotype);
         self.next_birth += 1;
         Ok(())
@@ -422,11 +423,15 @@ impl Running {
     {
         let mut mother = *self.population.front();
         let block = mother.daughter.unwrap();
-        self.genes.note_effort(mother.genotype, mother.bred + 1, Effort { ran, moved });
+        self.genes
+            .note_effort(mother.genotype, mother.bred + 1, Effort { ran, moved });
         let q = self.quanta + 1;
         let save_at = u64::from(self.settings.save_at);
-        let genotype = self.genes.note_birth(code, Some(mother.genotype), q, save_at);
-        self.population.enter(newborn(self.next_birth, block, genotype));
+        let genotype = self
+            .genes
+            .note_birth(code, Some(mother.genotype), q, save_at);
+        self.population
+            .enter(newborn(self.next_birth, block, genotype));
         self.census.born(genotype);
         mother.daughter = None;
         mother.moved = 0;
