@@ -1,5 +1,5 @@
 -- The entries of a reaper queue, each with the errors of its creature, as creatures err, move, come and go.
-use Rattle.std.proofs.Common.{◌≡◌, ℕ, ◌+◌, ◌<◌, ◌≢◌, Bool, true, List, [], ◌∷◌, ◌++◌, refl, sym, ◌∙◌, ap, arith, inl, inr}
+use Rattle.std.proofs.Common.{◌≡◌, ℕ, ◌+◌, ◌<◌, ◌≢◌, List, [], ◌∷◌, ◌++◌, refl, sym, ◌∙◌, ap, arith, inl, inr}
 use Rattle.std.proofs.lemmas.Bool.Decides.{nat_tests, eqb_tells}
 use Rattle.std.specs.Prelude.{Option, filter, find, if◌then◌else◌, map, not, unwrap_or, ◌==◌}
 use Rattle.tierra_model.specs.declared.creatures.Creature.{Creature}
@@ -7,7 +7,7 @@ use Rattle.tierra_model.specs.Counting.{times_in}
 use Rattle.tierra_model.specs.Living.{ids_of, nobody, one_of, with_record, without}
 use Rattle.tierra_model.specs.Queue.{error_move, good_move}
 use Rattle.tierra_model.proofs.Living.{find-last, find-without}
-use Rattle.tierra_model.proofs.Owners.{is_here-times, times_in-append}
+use Rattle.tierra_model.proofs.Owners.{is_here-times}
 use Rattle.tierra_model.proofs.Yards.{map-cong-in, map-error_move, map-filter-cong, map-good_move, one_of-with_other, one_of-with_same}
 use Rattle.reaper_queue.specs.Queue.{errors_of, is_of, with_error, ids_of as entry_ids, errors_in}
 use Rattle.world_core.specs.Population.{entries_of}

@@ -1,13 +1,12 @@
 -- No events, and the front's record as it is, fit a sound world before its last quantum: its turn ends, and that is all.
-use Rattle.std.proofs.Common.{◌≡◌, ◌≢◌, ◌∙◌, ℕ, ◌+◌, ◌*◌, ◌^◌, ◌<◌, ◌≤◌, List, [], ◌∷◌, refl, ap, arith, inl, inr, subst, sym}
+use Rattle.std.proofs.Common.{◌≡◌, ◌≢◌, ◌∙◌, ℕ, ◌+◌, ◌<◌, ◌≤◌, List, [], ◌∷◌, refl, ap, arith, inl, inr, subst, sym}
 use Rattle.std.proofs.lemmas.Bool.Decides.{eqb_tells, nat_tests}
-use Rattle.std.specs.Prelude.{◌==◌}
 use Rattle.tierra_model.specs.declared.creatures.Creature.{Creature}
 use Rattle.tierra_model.specs.Counting.{times_in}
 use Rattle.tierra_model.specs.Living.{ids_of, one_of, with_record}
 use Rattle.tierra_model.specs.World.{World, first_of, front, put}
 use Rattle.tierra_model.specs.Events.{turn_end}
-use Rattle.tierra_model.specs.Replay.{EventsFit, RecordFits, replay}
+use Rattle.tierra_model.specs.Replay.{EventsFit, replay}
 use Rattle.tierra_model.specs.Sound.{IsSound, count_limit}
 use Rattle.tierra_model.proofs.Commutes.{with_living}
 use Rattle.tierra_model.proofs.Owners.{is_here-times, with_record-none}

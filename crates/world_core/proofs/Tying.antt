@@ -4,7 +4,7 @@ use Rattle.std.proofs.lemmas.Bool.Decides.{eqb_tells, nat_tests}
 use Rattle.std.specs.Prelude.{None, Option, Some, not, unwrap_or, ◌==◌, ◌&&◌, ◌||◌}
 use Rattle.tierra_model.specs.declared.creatures.Block.{Block}
 use Rattle.tierra_model.specs.declared.creatures.Creature.{Creature}
-use Rattle.tierra_model.specs.Counting.{one_if, sum_of, times_in}
+use Rattle.tierra_model.specs.Counting.{one_if, times_in}
 use Rattle.tierra_model.specs.Blocks.{is_in, is_in_daughter}
 use Rattle.tierra_model.specs.FreeList.{is_in_some, runs_of}
 use Rattle.tierra_model.specs.Living.{ids_of, nobody, one_of, with_record, without}

@@ -118,24 +118,28 @@ impl Running {
 
     // ---- what the world is
 
+    /// The settings of the world.
     pub fn settings(&self) -> &Settings
         ensures { result.now ≡ self.now.world.settings }
     {
         &self.settings
     }
 
+    /// How many quanta have ended.
     pub fn quanta(&self) -> u64
         ensures { result ≡ self.now.world.quanta }
     {
         self.quanta
     }
 
+    /// How many were born; those of the start are not counted.
     pub fn births(&self) -> u64
         ensures { result ≡ self.now.world.births }
     {
         self.births
     }
 
+    /// How many died.
     pub fn deaths(&self) -> u64
         ensures { result ≡ self.now.world.deaths }
     {
@@ -165,12 +169,14 @@ impl Running {
         self.blocks.filled()
     }
 
+    /// The genotypes in the order of first birth.
     pub fn genotypes(&self) -> &Genotypes
         ensures { result.now.genotypes ≡ self.now.world.genotypes }
     {
         self.genes.genotypes()
     }
 
+    /// How many of each genotype live.
     pub fn census(&self) -> &Census
         ensures { (g : ℕ) → living_of result.now g ≡ number_with self.now.world.living g }
     {
@@ -184,12 +190,14 @@ impl Running {
         self.genes.kept()
     }
 
+    /// How many runs of free cells there are.
     pub fn free_len(&self) -> u32
         ensures { result ≡ length (free_list self.now.world) }
     {
         self.blocks.free_len()
     }
 
+    /// A run of free cells, by its place in their order.
     pub fn free_at(&self, place: u32) -> Block
         requires { place < length (free_list self.now.world) }
         ensures { result ≡ slice_index_or (free_list self.now.world) place no_block }

@@ -1,9 +1,7 @@
-use Rattle.std.proofs.Common.{◌≡◌, ◌∙◌, ◌+◌, ◌<◌, ℕ, List, [], ◌∷◌, ◌++◌, true, ap, arith, get_or, length, subst, sym, take}
+use Rattle.std.proofs.Common.{◌∙◌, arith, get_or, length, subst, sym, take}
 use Rattle.std.proofs.lemmas.List.{take_more}
-use Rattle.tierra_model.specs.declared.events.Event.{Event}
 use Rattle.tierra_model.specs.declared.events.Event.TheVariants as event
 use Rattle.tierra_model.specs.World.{World}
-use Rattle.world_core.specs.Running.{can_be_set}
 use Rattle.world_core.specs.Prepared.{CanWriteAll, WritesBelow}
 use Rattle.world_core.proofs.Preparing.{can_write-append, writes-below}
 use Rattle.world_core.proofs.Replaying.{can_write_all-kept}

@@ -1,5 +1,5 @@
-use Rattle.std.proofs.Common.{◌≡◌, ◌∙◌, ◌+◌, ◌<◌, ◌≤◌, ◌^◌, ℕ, List, [], ◌∷◌, ◌++◌, arith, length, sym}
-use Rattle.world_core.proofs.Cells.{copied-more, copied-none}
+use Rattle.std.proofs.Common.{◌∙◌, ◌+◌, ◌<◌, ◌≤◌, ◌^◌, [], ◌∷◌, ◌++◌, arith, length, sym}
+use Rattle.world_core.proofs.Cells.{copied-more}
 use Rattle.world_core.proofs.running.code_of.Goals as goal
 
 pub overflow_add-at-end : goal.overflow_add-at-end

@@ -1,7 +1,7 @@
-use Rattle.std.proofs.Common.{◌≡◌, ◌∙◌, ◌+◌, ◌<◌, ℕ, suc, List, [], ◌∷◌, add-one, ap, arith, drop, drop-cons, get_or, length, refl, subst, sym}
+use Rattle.std.proofs.Common.{◌≡◌, ◌∙◌, ◌+◌, ◌<◌, ℕ, suc, List, ◌∷◌, ap, arith, drop, drop-cons, get_or, length, refl, subst, sym}
 use Rattle.tierra_model.specs.declared.setups.Inoculum.{Inoculum}
 use Rattle.tierra_model.specs.World.{World}
-use Rattle.tierra_model.specs.Serial.{empty_world, with_inocula}
+use Rattle.tierra_model.specs.Serial.{with_inocula}
 use Rattle.world_core.specs.Starting.{CanInoculate, inoculated}
 use Rattle.world_core.proofs.Starting.{Fills, fills-can, fills-next, fills-none}
 use Rattle.world_core.proofs.world.inoculate_all.Goals as goal
