@@ -4,5 +4,7 @@
 mod bank;
 #[cfg(test)]
 mod tests;
+mod world_report;
 
 pub use bank::{bank_text, saved_line};
+pub use world_report::report;

@@ -1,11 +1,5 @@
 mod Pieces
 mod WordLists
 mod Asking
-mod Outcomes
-mod Alone
-mod Staying
-mod FlatSteps
-mod LoneSoup
-mod Built
 mod Accepted
 mod Causes
