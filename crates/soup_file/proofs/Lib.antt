@@ -1,0 +1,7 @@
+mod Members
+mod Checks
+mod Tables
+mod Apart
+mod InOrder
+mod WholeFile
+mod OneSetup

@@ -1,0 +1,17 @@
+//! Soup files: the setup of a TOML document.
+#![tactic(auto)]
+
+mod creatures;
+mod fault;
+mod key;
+mod laws;
+mod reading;
+mod settings;
+mod value;
+
+pub use fault::FileFault;
+pub use laws::soup_files_are_clear;
+pub use reading::read_setup;
+
+#[cfg(test)]
+mod tests;

@@ -1,0 +1,404 @@
+use super::*;
+use std::alloc::Global;
+use std::test::Fail;
+use tierra_asm::{AsmFault, assemble};
+use tierra_model::{Inoculum, Settings, Setup, grow_setup};
+
+const EVERY_KEY: &str = r#"
+soup_size = 100
+slice_size = 0x10
+slice_by_size = true
+slice_num = 2
+slice_den = 3
+search_limit = 50
+min_template = 2
+min_cell = 5
+max_cell = 5
+mal_mult = 4
+fill_percent = 90
+move_percent = 0
+save_at = 7
+back_rate = 8
+copy_rate = 9
+flaw_rate = 4294967295
+seed = "000102030405060708090a0b0c0d0e0f101112131415161718191A1B1C1D1EfF"
+dist_every = 6
+dist_percent = 20
+
+[[creature]]
+at = 95
+code = """
+zero or1 ; five cells
+shl shl mov_cd
+"""
+
+[[creature]]
+code = 'nop_1'
+at = 0
+"#;
+
+/// What is expected of a soup file that is refused.
+#[derive(Drop)]
+enum Refusal {
+    NotToml,
+    UnknownKey(&'static str),
+    WrongKind(&'static str),
+    OutOfRange(&'static str),
+    Missing(&'static str),
+    Listing(u32, AsmFault),
+    Overlap(u32, u32),
+    NoCreature,
+}
+
+fn is(fault: &FileFault, refusal: &Refusal) -> bool {
+    match (fault, refusal) {
+        (FileFault::NotToml, Refusal::NotToml) => true,
+        (FileFault::NoCreature, Refusal::NoCreature) => true,
+        (FileFault::UnknownKey { key }, Refusal::UnknownKey(name)) => {
+            key.items.as_slice() == name.as_bytes()
+        }
+        (FileFault::WrongKind { key }, Refusal::WrongKind(name)) => {
+            key.items.as_slice() == name.as_bytes()
+        }
+        (FileFault::OutOfRange { key }, Refusal::OutOfRange(name)) => {
+            key.items.as_slice() == name.as_bytes()
+        }
+        (FileFault::Missing { key }, Refusal::Missing(name)) => {
+            key.items.as_slice() == name.as_bytes()
+        }
+        (FileFault::Listing { creature, fault }, Refusal::Listing(number, cause)) => {
+            creature == number && fault == cause
+        }
+        (FileFault::Overlap { first, second }, Refusal::Overlap(one, other)) => {
+            first == one && second == other
+        }
+        _ => false,
+    }
+}
+
+fn is_accepted(alloc: Global, text: &str) -> bool {
+    read_setup(alloc, text.as_bytes()).is_ok()
+}
+
+fn is_refused(alloc: Global, text: &str, refusal: &Refusal) -> bool {
+    match read_setup(alloc, text.as_bytes()) {
+        Ok(_) => false,
+        Err(fault) => is(&fault, refusal),
+    }
+}
+
+// The settings and creatures that `EVERY_KEY` tells.
+fn tells_every_key(setup: &Setup) -> bool {
+    let mut seed = [0; 32];
+    for (place, byte) in (0..31).zip(seed.iter_mut()) {
+        *byte = place;
+    }
+    seed[31] = 0xff;
+    let settings = Settings {
+        soup_size: 100,
+        slice_size: 16,
+        slice_by_size: true,
+        slice_num: 2,
+        slice_den: 3,
+        search_limit: 50,
+        min_template: 2,
+        min_cell: 5,
+        max_cell: 5,
+        mal_mult: 4,
+        fill_percent: 90,
+        move_percent: 0,
+        save_at: 7,
+        back_rate: 8,
+        copy_rate: 9,
+        flaw_rate: u32::MAX,
+        seed,
+        dist_every: 6,
+        dist_percent: 20,
+    };
+    setup.settings == settings
+        && are(
+            setup.creatures.items.as_slice(),
+            &[(95, &[4, 2, 3, 3, 24]), (0, &[1])],
+        )
+}
+
+fn are(creatures: &[Inoculum], expected: &[(u32, &[u8])]) -> bool {
+    creatures.len() == expected.len()
+        && creatures.iter().zip(expected.iter()).all(|(creature, (at, code))| {
+            creature.at == *at && creature.code.items.as_slice() == *code
+        })
+}
+
+#[test]
+fn a_file_tells_its_setup(rt: HostRuntime) -> Result<(), Fail> {
+    let setup = read_setup(rt.alloc(), EVERY_KEY.as_bytes())?;
+    assert!(rt; tells_every_key(&setup));
+    let grown = grow_setup(rt.alloc(), assemble(rt.alloc(), "zero")?)?;
+    for text in [
+        "[[creature]]\nat = 0\ncode = \"zero\"",
+        "creature = [{ code = \"zero\", at = 0 }]",
+        "\"creature\" = [{ 'at' = 0x0, code = \"; a comment\\n zero\" },]",
+    ] {
+        let setup = read_setup(rt.alloc(), text.as_bytes())?;
+        assert!(rt; setup.settings == grown.settings, "{text}");
+        assert!(rt;
+            are(setup.creatures.items.as_slice(), &[(0, &[4])]),
+            "{text}"
+        );
+    }
+    Ok(())
+}
+
+#[test]
+fn each_range_has_its_ends(rt: HostRuntime) -> Result<(), Fail> {
+    let rows: [(&'static str, &str, i64, i64); 16] = [
+        ("soup_size", "", 100, 1_048_576),
+        ("slice_size", "", 1, 10_000),
+        ("slice_num", "", 1, 100),
+        ("slice_den", "", 1, 100),
+        ("search_limit", "", 1, 1_048_576),
+        ("min_template", "", 1, 10),
+        ("min_cell", "", 1, 20_000),
+        ("max_cell", "min_cell = 1\n", 1, 20_000),
+        ("mal_mult", "", 1, 100),
+        ("fill_percent", "", 1, 100),
+        ("move_percent", "", 0, 100),
+        ("save_at", "", 1, 1_000_000),
+        ("back_rate", "", 0, 4_294_967_295),
+        ("copy_rate", "", 0, 4_294_967_295),
+        ("flaw_rate", "", 0, 4_294_967_295),
+        ("dist_every", "", 0, 4_000_000),
+    ];
+    for (key, before, low, high) in rows {
+        for (value, is_in_range) in [
+            (low - 1, false),
+            (low, true),
+            (high, true),
+            (high + 1, false),
+        ] {
+            let text = format!(in rt.alloc();
+                "{before}{key} = {value}\ncreature = [{{ at = 0, code = 'zero' }}]"
+            )?;
+            if is_in_range {
+                assert!(rt; is_accepted(rt.alloc(), text.as_str()), "{text}");
+            } else {
+                assert!(rt;
+                    is_refused(rt.alloc(), text.as_str(), &Refusal::OutOfRange(key)),
+                    "{text}"
+                );
+            }
+        }
+    }
+    Ok(())
+}
+
+#[test]
+fn the_first_check_that_fails_is_told(rt: HostRuntime) {
+    let rows = [
+        // the document, then its keys
+        ("slices = 3 slice_size = 0", Refusal::NotToml),
+        ("a = 1\nsoup_size = 1\nsoup_size = 1", Refusal::NotToml),
+        ("soup_size = 9223372036854775808", Refusal::NotToml),
+        ("slices = 3\nsoup_size = 1", Refusal::UnknownKey("slices")),
+        (
+            "zoo = 1\nSeed = 1\nsoup_size = ''",
+            Refusal::UnknownKey("Seed"),
+        ),
+        ("'a\"b' = 1", Refusal::UnknownKey("a\"b")),
+        ("\"\" = 1", Refusal::UnknownKey("")),
+        ("z = 1\ncreature = [{ a = 1 }]", Refusal::UnknownKey("z")),
+        // the settings, in their order
+        (
+            "soup_size = 99\nslice_size = ''",
+            Refusal::OutOfRange("soup_size"),
+        ),
+        (
+            "slice_size = 1.0\nslice_by_size = 1",
+            Refusal::WrongKind("slice_size"),
+        ),
+        (
+            "slice_by_size = 1\nslice_num = 0",
+            Refusal::WrongKind("slice_by_size"),
+        ),
+        (
+            "slice_num = 0\nslice_den = 0",
+            Refusal::OutOfRange("slice_num"),
+        ),
+        (
+            "slice_den = 0\nsearch_limit = 0",
+            Refusal::OutOfRange("slice_den"),
+        ),
+        (
+            "search_limit = 0\nmin_template = 0",
+            Refusal::OutOfRange("search_limit"),
+        ),
+        (
+            "min_template = 0\nmin_cell = 0",
+            Refusal::OutOfRange("min_template"),
+        ),
+        (
+            "min_cell = 0\nmax_cell = 0",
+            Refusal::OutOfRange("min_cell"),
+        ),
+        (
+            "max_cell = 0\nmal_mult = 0",
+            Refusal::OutOfRange("max_cell"),
+        ),
+        (
+            "mal_mult = 0\nfill_percent = 0",
+            Refusal::OutOfRange("mal_mult"),
+        ),
+        (
+            "fill_percent = 0\nmove_percent = -1",
+            Refusal::OutOfRange("fill_percent"),
+        ),
+        (
+            "move_percent = -1\nsave_at = 0",
+            Refusal::OutOfRange("move_percent"),
+        ),
+        (
+            "save_at = 0\nback_rate = -1",
+            Refusal::OutOfRange("save_at"),
+        ),
+        (
+            "back_rate = -1\ncopy_rate = -1",
+            Refusal::OutOfRange("back_rate"),
+        ),
+        (
+            "copy_rate = -1\nflaw_rate = -1",
+            Refusal::OutOfRange("copy_rate"),
+        ),
+        (
+            "flaw_rate = -1\nseed = ''",
+            Refusal::OutOfRange("flaw_rate"),
+        ),
+        ("seed = 5\ndist_every = -1", Refusal::WrongKind("seed")),
+        ("seed = ''\ndist_every = -1", Refusal::OutOfRange("seed")),
+        (
+            "dist_every = 4000001\ndist_percent = -1",
+            Refusal::OutOfRange("dist_every"),
+        ),
+        (
+            "dist_percent = 101\nmax_cell = 11",
+            Refusal::OutOfRange("dist_percent"),
+        ),
+        (
+            "max_cell = 11\ncreature = 1",
+            Refusal::OutOfRange("max_cell"),
+        ),
+    ];
+    for (text, refusal) in rows {
+        assert!(rt; is_refused(rt.alloc(), text, &refusal), "{text}");
+    }
+}
+
+#[test]
+fn the_first_creature_that_fails_is_told(rt: HostRuntime) {
+    let rows = [
+        ("", Refusal::NoCreature),
+        ("creature = []", Refusal::NoCreature),
+        (
+            "creature = { at = 0, code = 'zero' }",
+            Refusal::WrongKind("creature"),
+        ),
+        ("creature = [{ a = 1 }, 1]", Refusal::WrongKind("creature")),
+        (
+            "creature = [{ b = 1, a = 1 }]",
+            Refusal::UnknownKey("creature.a"),
+        ),
+        (
+            "creature = [{ code = 1, At = 1 }]",
+            Refusal::UnknownKey("creature.At"),
+        ),
+        ("creature = [{ code = 1 }]", Refusal::Missing("creature.at")),
+        (
+            "creature = [{ at = '0', code = 1 }]",
+            Refusal::WrongKind("creature.at"),
+        ),
+        (
+            "creature = [{ at = 60000 }]",
+            Refusal::OutOfRange("creature.at"),
+        ),
+        (
+            "creature = [{ at = -1, code = 1 }]",
+            Refusal::OutOfRange("creature.at"),
+        ),
+        (
+            "creature = [{ at = 59999 }]",
+            Refusal::Missing("creature.code"),
+        ),
+        (
+            "creature = [{ at = 0, code = 1 }, { a = 1 }]",
+            Refusal::WrongKind("creature.code"),
+        ),
+        (
+            "creature = [{ at = 0, code = 'zero' }, { at = 59999, code = 'zero\tzoro' }]",
+            Refusal::Listing(2, AsmFault::UnknownName { line: 1 }),
+        ),
+        (
+            "creature = [{ at = 0, code = '' }]",
+            Refusal::Listing(1, AsmFault::Empty),
+        ),
+        (
+            "soup_size = 100\ncreature = [{ at = 99, code = 'shl' }, { at = 96, code = 'shl shl shl shl shl' }]",
+            Refusal::OutOfRange("creature.at"),
+        ),
+        (
+            "creature = [{ at = 0, code = 'shl shl shl shl shl' }, { at = 4, code = 'shl shl shl shl shl' }]",
+            Refusal::Overlap(1, 2),
+        ),
+        (
+            "creature = [{ at = 9, code = 'shl' }, { at = 4, code = 'shl shl' }, { at = 7, code = 'shl' }, { at = 5, code = 'shl shl shl shl shl' }, { at = 0 }]",
+            Refusal::Overlap(1, 4),
+        ),
+    ];
+    for (text, refusal) in rows {
+        assert!(rt; is_refused(rt.alloc(), text, &refusal), "{text}");
+    }
+}
+
+#[test]
+fn edges(rt: HostRuntime) -> Result<(), Fail> {
+    let text =
+        "soup_size = 100\ncreature = [{ at = 95, code = 'shl shl shl shl shl' }, { at = 93, code = 'shl shl' }]";
+    let setup = read_setup(rt.alloc(), text.as_bytes())?;
+    assert!(rt;
+        are(
+            setup.creatures.items.as_slice(),
+            &[(95, &[3, 3, 3, 3, 3]), (93, &[3, 3])]
+        )
+    );
+    assert!(rt; is_refused(rt.alloc(), "\u{feff}a", &Refusal::NotToml));
+    assert!(rt; read_setup(rt.alloc(), &[0xff]).is_err_and(|fault| is(&fault, &Refusal::NotToml)));
+    for (digits, is_seed) in [
+        (
+            "ABCDEFabcdef0123456789000000000000000000000000000000000000000000",
+            true,
+        ),
+        (
+            "ABCDEFabcdef012345678900000000000000000000000000000000000000000",
+            false,
+        ),
+        (
+            "ABCDEFabcdef01234567890000000000000000000000000000000000000000000",
+            false,
+        ),
+        (
+            "ABCDEFabcdef012345678900000000000000000000000000000000000000000g",
+            false,
+        ),
+    ] {
+        let text = format!(in rt.alloc();
+            "seed = '{digits}'\ncreature = [{{ at = 0, code = 'zero' }}]"
+        )?;
+        if is_seed {
+            assert!(rt; is_accepted(rt.alloc(), text.as_str()), "{text}");
+        } else {
+            assert!(rt;
+                is_refused(rt.alloc(), text.as_str(), &Refusal::OutOfRange("seed")),
+                "{text}"
+            );
+        }
+    }
+    Ok(())
+}
