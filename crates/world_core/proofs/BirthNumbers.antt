@@ -1,5 +1,5 @@
 -- Creatures in the order of their birth numbers: where one stands, and the list with its record changed or without it.
-use Rattle.std.proofs.Common.{◌≡◌, ℕ, zero, suc, ◌+◌, ◌<◌, ◌≤◌, ◌≢◌, List, [], ◌∷◌, refl, ap, arith, get_or, length, set, remove}
+use Rattle.std.proofs.Common.{◌≡◌, ℕ, zero, suc, ◌+◌, ◌<◌, ◌≤◌, List, [], ◌∷◌, refl, arith, get_or, length, set, remove}
 use Rattle.std.proofs.lemmas.Bool.Decides.{nat_tests}
 use Rattle.std.specs.Prelude.{None, Some, find, ◌==◌}
 use Rattle.std.specs.List.Sorted.{IsNonDecreasingBy}

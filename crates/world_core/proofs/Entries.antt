@@ -1,5 +1,5 @@
 -- The entries of a reaper queue, each with the errors of its creature, as creatures err, move, come and go.
-use Rattle.std.proofs.Common.{◌≡◌, ℕ, ◌+◌, ◌<◌, ◌≢◌, Bool, true, List, [], ◌∷◌, ◌++◌, refl, sym, ◌∙◌, ap, arith, inl, inr}
+use Rattle.std.proofs.Common.{◌≡◌, ℕ, ◌+◌, ◌<◌, ◌≢◌, List, [], ◌∷◌, ◌++◌, refl, sym, ◌∙◌, ap, arith, inl, inr}
 use Rattle.std.proofs.lemmas.Bool.Decides.{nat_tests, eqb_tells}
 use Rattle.std.specs.Prelude.{Option, filter, find, if◌then◌else◌, map, not, unwrap_or, ◌==◌}
 use Rattle.tierra_model.specs.declared.creatures.Creature.{Creature}
@@ -7,7 +7,7 @@ use Rattle.tierra_model.specs.Counting.{times_in}
 use Rattle.tierra_model.specs.Living.{ids_of, nobody, one_of, with_record, without}
 use Rattle.tierra_model.specs.Queue.{error_move, good_move}
 use Rattle.tierra_model.proofs.Living.{find-last, find-without}
-use Rattle.tierra_model.proofs.Owners.{is_here-times, times_in-append}
+use Rattle.tierra_model.proofs.Owners.{is_here-times}
 use Rattle.tierra_model.proofs.Yards.{map-cong-in, map-error_move, map-filter-cong, map-good_move, one_of-with_other, one_of-with_same}
 use Rattle.reaper_queue.specs.Queue.{errors_of, is_of, with_error, ids_of as entry_ids, errors_in}
 use Rattle.world_core.specs.Population.{entries_of}
@@ -103,7 +103,7 @@ entries-removed id living ids =
     moved (without id living) (filter (λ x. not (x == id)) ids) (filter (λ (x : ℕ × ℕ). not (x.0 == id)) (entries_of living ids))
     (filter-entries id (errors_among living) ids
     ∙ map-filter-cong (entry (errors_among living)) (entry (errors_among (without id living))) id
-      (λ x other. ap (λ (o : Option Creature). (x, (unwrap_or o nobody).errors)) (sym (find-without living x id other))) ids)
+    (λ x other. ap (λ (o : Option Creature). (x, (unwrap_or o nobody).errors)) (sym (find-without living x id other))) ids)
 
 -- ---- a birth
 
@@ -121,8 +121,8 @@ entries-entered c living ids none new absent =
     let after : ℕ → ℕ = errors_among (living ++ c ∷ []) in
     let others : entries_of living ids ≡ map (entry after) ids
     = map-cong-in (entry (errors_among living)) (entry after) ids (λ x here.
-      let other : x ≢ c.id = λ e. absurd (let gone : times_in ids x ≡ 0 = ap (times_in ids) e ∙ absent in omega arith) in
-      ap (λ (o : Option Creature). (x, (unwrap_or o nobody).errors)) (sym (find-entered living c x other))) in
+    let other : x ≢ c.id = λ e. absurd (let gone : times_in ids x ≡ 0 = ap (times_in ids) e ∙ absent in omega arith) in
+    ap (λ (o : Option Creature). (x, (unwrap_or o nobody).errors)) (sym (find-entered living c x other))) in
     let last : after c.id ≡ 0 = ap (λ (o : Option Creature). (unwrap_or o nobody).errors) (find-last living c new) ∙ none in
     moved (living ++ c ∷ []) (ids ++ c.id ∷ []) (entries_of living ids ++ (c.id, 0) ∷ [])
     (ap (λ (l : List (ℕ × ℕ)). l ++ (c.id, 0) ∷ []) others

@@ -89,7 +89,7 @@ born w ran moved b x nb gs hs k save_at code saved ex ed ec eg eh ek ea es en =
     let known : gs ≡ genotypes_at_birth (front w) ran moved w.genotypes
     = eg ∙ (λ i. with_effort_of (ex i).genotype ((ex i).bred + 1) (record { ran = ran; moved = moved }) w.genotypes) in
     let all : with_individual gs code (Some x.genotype) q
-        ≡ with_individual (genotypes_at_birth (front w) ran moved w.genotypes) (slice_range w.soup b.at (b.at + b.size)) (Some (front w).genotype) q
+    ≡ with_individual (genotypes_at_birth (front w) ran moved w.genotypes) (slice_range w.soup b.at (b.at + b.size)) (Some (front w).genotype) q
     = (λ i. with_individual (known i) (ec i) (Some (ex i).genotype) q) in
     let number : k ≡ (with_individual (genotypes_at_birth (front w) ran moved w.genotypes) (slice_range w.soup b.at (b.at + b.size)) (Some (front w).genotype) q).1
     = ek ∙ ap (λ (r : List Genotype × ℕ). r.1) all in

@@ -11,3 +11,4 @@ pub mod Starting
 pub mod Registers
 pub mod Replaying
 pub mod Preparing
+pub mod NothingHappens

@@ -71,7 +71,7 @@ pub free-died : (n : ℕ) (xs ys : List Creature) (c : Creature) → ((p : ℕ) 
 free-died n xs ys c e one =
     let owned : (p : ℕ) → (is_owned xs p && not (holds c p)) ≡ is_owned ys p
     = λ p. ap (λ (o : Bool). o && not (holds c p)) (is_owned-owners xs p)
-        ∙ sym (less_held (is_in c.own p) (is_in_daughter c.daughter p) (owners ys p) (owners xs p) (e p) (one p)) ∙ sym (is_owned-owners ys p) in
+    ∙ sym (less_held (is_in c.own p) (is_in_daughter c.daughter p) (owners ys p) (owners xs p) (e p) (one p)) ∙ sym (is_owned-owners ys p) in
     freed-cells n (λ p. is_owned xs p) (λ p. holds c p) ∙ (λ i. runs_of n (λ p. not (owned p i)))
 
 -- ---- a block of a creature is owned, and lies in the soup
@@ -115,7 +115,7 @@ owns_held living x p here once found held =
     let some : 0 < owners_of x p = holder (is_in x.own p) (is_in_daughter x.daughter p) held in
     let rest : owners (without x.id living) p + owners_of x p ≡ owners living p
     = sym (ap (λ (d : Creature). owners (without x.id living) p + owners_of d p) found)
-        ∙ sum_of-without (λ d. owners_of d p) living x.id (is_here-times living x.id here) (once x.id) in
+    ∙ sum_of-without (λ d. owners_of d p) living x.id (is_here-times living x.id here) (once x.id) in
     omega arith
 
 in_daughter : (n : ℕ) (o : Option Block) (p : ℕ) → IfSome o (IsBlock n) → is_in_daughter o p ≡ true → p < n
@@ -135,7 +135,7 @@ pub held_apart : (living : List Creature) (x : Creature) (p : ℕ) → 0 < times
 held_apart living x p here once found apart own =
     let rest : owners (without x.id living) p + owners_of x p ≡ owners living p
     = sym (ap (λ (d : Creature). owners (without x.id living) p + owners_of d p) found)
-        ∙ sum_of-without (λ d. owners_of d p) living x.id (is_here-times living x.id here) (once x.id) in
+    ∙ sum_of-without (λ d. owners_of d p) living x.id (is_here-times living x.id here) (once x.id) in
     go (is_in_daughter x.daughter p) (let one : one_if (is_in x.own p) ≡ 1 = ap one_if own in omega arith)
   where
     go : (b : Bool) → one_if b ≤ 0 → b ≡ false

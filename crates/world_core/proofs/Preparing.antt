@@ -3,13 +3,12 @@ use Rattle.std.proofs.Common.{◌≡◌, ℕ, zero, suc, ◌+◌, ◌-◌, ◌*�
 use Rattle.std.proofs.Math.Seq.{take-set-lt}
 use Rattle.std.proofs.lemmas.List.{drop-set-add, drop-set-lt, length-set, take-set-le}
 use Rattle.std.proofs.lemmas.Bool.Decides.{nat_tests}
-use Rattle.std.specs.Prelude.{IfSome, None, Option, Some, if◌then◌else◌, nat_le, nat_lt, slice_range, slice_set, ◌&&◌}
+use Rattle.std.specs.Prelude.{IfSome, None, Option, Some, if◌then◌else◌, nat_le, nat_lt, slice_range, ◌&&◌}
 use Rattle.tierra_model.specs.declared.creatures.Block.{Block}
 use Rattle.tierra_model.specs.declared.creatures.Creature.{Creature}
 use Rattle.tierra_model.specs.declared.events.Event.{Event}
 use Rattle.tierra_model.specs.declared.events.Event.TheVariants as event
 use Rattle.tierra_model.specs.Counting.{sum_of}
-use Rattle.tierra_model.specs.Blocks.{is_in}
 use Rattle.tierra_model.specs.World.{World, front}
 use Rattle.tierra_model.specs.Events.{apply_event, record_after}
 use Rattle.tierra_model.specs.Replay.{CanAllHappen, CanHappen, after_events}
@@ -25,7 +24,7 @@ use Rattle.tierra_model.proofs.Sound.{within-start}
 use Rattle.tierra_model.proofs.WithinQuantum.{WithinQuantum}
 use Rattle.world_core.proofs.Within.{running-within}
 use Rattle.world_core.specs.Running.{IsRunning, WorldFields}
-use Rattle.world_core.specs.Prepared.{CanWrite, CanWriteAll, WritesBelow, code_at, code_born, codes_born, daughter_after, with_write, with_writes, written_into}
+use Rattle.world_core.specs.Prepared.{CanWrite, CanWriteAll, WritesBelow, code_born, codes_born, daughter_after, with_write, with_writes, written_into}
 
 -- ---- an event of a list, and those before it
 

@@ -1,5 +1,5 @@
 -- Events done one after another, of which some are left.
-use Rattle.std.proofs.Common.{◌≡◌, ℕ, zero, suc, ◌+◌, ◌*◌, ◌^◌, ◌<◌, ◌≤◌, true, List, [], ◌∷◌, ◌++◌, refl, sym, ◌∙◌, ap, subst, arith, drop, length}
+use Rattle.std.proofs.Common.{◌≡◌, ℕ, suc, ◌+◌, ◌*◌, ◌^◌, ◌<◌, ◌≤◌, true, List, [], ◌∷◌, ◌++◌, refl, sym, ◌∙◌, ap, subst, arith, drop, length}
 use Rattle.std.proofs.Math.Seq.{drop-append_seam}
 use Rattle.tierra_model.specs.declared.events.Event.{Event}
 use Rattle.tierra_model.specs.declared.events.Event.TheVariants as event
@@ -7,7 +7,7 @@ use Rattle.tierra_model.specs.Counting.{sum_of}
 use Rattle.tierra_model.specs.World.{World}
 use Rattle.tierra_model.specs.Sound.{IsSound, count_limit}
 use Rattle.tierra_model.specs.Events.{apply_event}
-use Rattle.tierra_model.specs.Replay.{CanAllHappen, CanHappen, after_events}
+use Rattle.tierra_model.specs.Replay.{CanAllHappen, after_events}
 use Rattle.tierra_model.specs.SceneRun.{births_of}
 use Rattle.tierra_model.proofs.Sound.{within-start}
 use Rattle.tierra_model.proofs.WithinQuantum.{Adds, WithinQuantum, within-event}

@@ -1,5 +1,5 @@
 -- A world that is being filled: what holds while creatures are still to come.
-use Rattle.std.proofs.Common.{◌≡◌, ℕ, zero, suc, ◌+◌, ◌-◌, ◌<◌, ◌≤◌, Bool, true, false, List, [], ◌∷◌, ◌++◌, refl, sym, ◌∙◌, ap, subst, arith, drop, length, length-append, take}
+use Rattle.std.proofs.Common.{◌≡◌, ℕ, ◌+◌, ◌≤◌, Bool, true, false, List, [], ◌∷◌, ◌++◌, refl, sym, ◌∙◌, ap, subst, arith, drop, length, length-append, take}
 use Rattle.std.proofs.lemmas.Bool.Decides.{nat_tests}
 use Rattle.std.proofs.lemmas.List.{length-drop, length-replicate, length-take}
 use Rattle.std.proofs.lemmas.List.Elements.{All-head, All-nil, All-tail}
@@ -12,7 +12,6 @@ use Rattle.tierra_model.specs.Counting.{one_if, sum_of, times_in}
 use Rattle.tierra_model.specs.Ranges.{IsCode}
 use Rattle.tierra_model.specs.Blocks.{is_in}
 use Rattle.tierra_model.specs.Living.{ids_of, newborn}
-use Rattle.tierra_model.specs.Room.{is_owned}
 use Rattle.tierra_model.specs.World.{Genotype, World}
 use Rattle.tierra_model.specs.Sound.{owners, owners_of}
 use Rattle.tierra_model.specs.Individuals.{with_individual}

@@ -4,7 +4,7 @@ use Rattle.std.proofs.lemmas.Bool.Decides.{eqb_tells, nat_tests}
 use Rattle.std.specs.Prelude.{None, Option, Some, not, unwrap_or, ◌==◌, ◌&&◌, ◌||◌}
 use Rattle.tierra_model.specs.declared.creatures.Block.{Block}
 use Rattle.tierra_model.specs.declared.creatures.Creature.{Creature}
-use Rattle.tierra_model.specs.Counting.{one_if, sum_of, times_in}
+use Rattle.tierra_model.specs.Counting.{one_if, times_in}
 use Rattle.tierra_model.specs.Blocks.{is_in, is_in_daughter}
 use Rattle.tierra_model.specs.FreeList.{is_in_some, runs_of}
 use Rattle.tierra_model.specs.Living.{ids_of, nobody, one_of, with_record, without}
@@ -55,7 +55,7 @@ tied-put n living blocks census b a h d t =
     record {
       size = t.size;
       free = t.free ∙ free-same n living (with_record a living) (λ p.
-      omega (arith, owners-puts living b a p h, own-puts b a p h.own, daughter-is a b.daughter p d));
+          omega (arith, owners-puts living b a p h, own-puts b a p h.own, daughter-is a b.daughter p d));
       counts = λ g. t.counts g ∙ sym (number-puts living b a g h);
     }
 
@@ -104,7 +104,7 @@ tied-died n living blocks after census counts id c here once found apart size fr
       counts = λ g.
           let gone : number_with (without id living) g + one_if (c.genotype == g) ≡ number_with living g
           = sym (ap (λ (d : Creature). number_with (without id living) g + one_if (d.genotype == g)) found)
-              ∙ sum_of-without (λ d. one_if (d.genotype == g)) living id (is_here-times living id here) (once id) in
+          ∙ sum_of-without (λ d. one_if (d.genotype == g)) living id (is_here-times living id here) (once id) in
           omega (arith, t.counts g, fewer g);
     }
 
@@ -114,7 +114,7 @@ pub counted : (living : List Creature) (census : Census) (id : ℕ) (c : Creatur
 counted living census id c here once found counts =
     let gone : number_with (without id living) c.genotype + one_if (c.genotype == c.genotype) ≡ number_with living c.genotype
     = sym (ap (λ (d : Creature). number_with (without id living) c.genotype + one_if (d.genotype == c.genotype)) found)
-        ∙ sum_of-without (λ d. one_if (d.genotype == c.genotype)) living id (is_here-times living id here) (once id) in
+    ∙ sum_of-without (λ d. one_if (d.genotype == c.genotype)) living id (is_here-times living id here) (once id) in
     let one : one_if (c.genotype == c.genotype) ≡ 1 = itself c.genotype in
     omega (arith, counts c.genotype)
   where
@@ -153,8 +153,16 @@ tied-born n living blocks census counts b a nb x h some none own childless more 
     record {
       size = t.size;
       free = t.free ∙ free-same n living (with_record a (living ++ nb ∷ [])) (λ p.
-      omega (arith, owners-puts (living ++ nb ∷ []) b a p h, own-puts b a p h.own, daughter-is b (Some x) p some, daughter-is a None p none,
-      ap (λ (k : Block). one_if (is_in k p)) own, daughter-is nb None p childless, sum_of-append (λ d. owners_of d p) living (nb ∷ [])));
+          omega (
+            arith,
+            owners-puts (living ++ nb ∷ []) b a p h,
+            own-puts b a p h.own,
+            daughter-is b (Some x) p some,
+            daughter-is a None p none,
+            ap (λ (k : Block). one_if (is_in k p)) own,
+            daughter-is nb None p childless,
+            sum_of-append (λ d. owners_of d p) living (nb ∷ []),
+          ));
       counts = λ g. omega (arith, t.counts g, more g, number-puts (living ++ nb ∷ []) b a g h, sum_of-append (λ d. one_if (d.genotype == g)) living (nb ∷ []));
     }
 

@@ -1,5 +1,5 @@
 -- What a running world gives: the front, each creature once, and the ranges of the creature at the front.
-use Rattle.std.proofs.Common.{◌≡◌, ℕ, ◌+◌, ◌∙◌, ◌^◌, ◌<◌, ◌≤◌, true, List, [], ◌∷◌, ap, arith, length, subst, sym}
+use Rattle.std.proofs.Common.{◌≡◌, ℕ, ◌+◌, ◌∙◌, ◌^◌, ◌<◌, ◌≤◌, List, [], ◌∷◌, ap, arith, length, subst, sym}
 use Rattle.std.proofs.lemmas.Bool.Decides.{nat_tests}
 use Rattle.std.specs.Prelude.{All, IfSome, Option, Some, find, slice_index, ◌==◌}
 use Rattle.tierra_model.specs.declared.creatures.Block.{Block}
@@ -12,7 +12,7 @@ use Rattle.tierra_model.specs.Living.{ids_of, one_of}
 use Rattle.tierra_model.specs.World.{World, first_of, front}
 use Rattle.tierra_model.specs.Sound.{IsPlaced, IsSound, count_limit}
 use Rattle.tierra_model.proofs.Owners.{is_here-times, times-is_here}
-use Rattle.tierra_model.proofs.Each.{Each, all_from_each, each-map, each-one, each_from_all}
+use Rattle.tierra_model.proofs.Each.{all_from_each, each-map, each-one, each_from_all}
 use Rattle.tierra_model.proofs.Commutes.{HasFront, front-id}
 use Rattle.tierra_model.proofs.EachOnce.{EachOnce}
 use Rattle.tierra_model.proofs.Population.{InBounds}

@@ -1,5 +1,5 @@
 -- A world in the middle of a turn.
-use Rattle.std.specs.Prelude.{All, Bool, List, length, map, not, true, ℕ, ◌+◌, ◌<◌, ◌==◌, ◌^◌, ◌≡◌, ◌≤◌}
+use Rattle.std.specs.Prelude.{All, Bool, List, length, true, ℕ, ◌+◌, ◌<◌, ◌==◌, ◌^◌, ◌≡◌, ◌≤◌}
 use Rattle.tierra_model.specs.declared.creatures.Creature.{Creature}
 use Rattle.tierra_model.specs.Counting.{one_if, sum_of, times_in}
 use Rattle.tierra_model.specs.Ranges.{IsCode}

@@ -86,7 +86,13 @@ impl Genes {
 
     /// Counts an individual of quantum `q`, and saves its genotype where `save_at` are reached. It answers the number of
     /// the genotype.
-    pub(crate) fn note_birth(&mut self, code: Code, parent: Option<u64>, q: u64, save_at: u64) -> u64
+    pub(crate) fn note_birth(
+        &mut self,
+        code: Code,
+        parent: Option<u64>,
+        q: u64,
+        save_at: u64,
+    ) -> u64
         requires room { 0 < self.old.spare }
         requires code { IsCode code }
         requires counts { All (λ g. g.total < 2 ^ 60) self.old.genotypes }

@@ -11,3 +11,6 @@ mod world;
 pub use prepared::Prepared;
 pub use running::Running;
 pub use world::World;
+
+#[cfg(test)]
+mod tests;

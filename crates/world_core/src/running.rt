@@ -109,7 +109,8 @@ impl Running {
         self.blocks.take(block);
         let save_at = u64::from(self.settings.save_at);
         let genotype = self.genes.note_birth(code, None, 0, save_at);
-        self.population.enter(newborn(self.next_birth, block, genotype));
+        self.population
+            .enter(newborn(self.next_birth, block, genotype));
         self.census.born(genotype);
         self.next_birth += 1;
         Ok(())
@@ -117,24 +118,28 @@ impl Running {
 
     // ---- what the world is
 
+    /// The settings of the world.
     pub fn settings(&self) -> &Settings
         ensures { result.now ≡ self.now.world.settings }
     {
         &self.settings
     }
 
+    /// How many quanta have ended.
     pub fn quanta(&self) -> u64
         ensures { result ≡ self.now.world.quanta }
     {
         self.quanta
     }
 
+    /// How many were born; those of the start are not counted.
     pub fn births(&self) -> u64
         ensures { result ≡ self.now.world.births }
     {
         self.births
     }
 
+    /// How many died.
     pub fn deaths(&self) -> u64
         ensures { result ≡ self.now.world.deaths }
     {
@@ -164,12 +169,14 @@ impl Running {
         self.blocks.filled()
     }
 
+    /// The genotypes in the order of first birth.
     pub fn genotypes(&self) -> &Genotypes
         ensures { result.now.genotypes ≡ self.now.world.genotypes }
     {
         self.genes.genotypes()
     }
 
+    /// How many of each genotype live.
     pub fn census(&self) -> &Census
         ensures { (g : ℕ) → living_of result.now g ≡ number_with self.now.world.living g }
     {
@@ -183,12 +190,14 @@ impl Running {
         self.genes.kept()
     }
 
+    /// How many runs of free cells there are.
     pub fn free_len(&self) -> u32
         ensures { result ≡ length (free_list self.now.world) }
     {
         self.blocks.free_len()
     }
 
+    /// A run of free cells, by its place in their order.
     pub fn free_at(&self, place: u32) -> Block
         requires { place < length (free_list self.now.world) }
         ensures { result ≡ slice_index_or (free_list self.now.world) place no_block }
@@ -422,11 +431,15 @@ impl Running {
     {
         let mut mother = *self.population.front();
         let block = mother.daughter.unwrap();
-        self.genes.note_effort(mother.genotype, mother.bred + 1, Effort { ran, moved });
+        self.genes
+            .note_effort(mother.genotype, mother.bred + 1, Effort { ran, moved });
         let q = self.quanta + 1;
         let save_at = u64::from(self.settings.save_at);
-        let genotype = self.genes.note_birth(code, Some(mother.genotype), q, save_at);
-        self.population.enter(newborn(self.next_birth, block, genotype));
+        let genotype = self
+            .genes
+            .note_birth(code, Some(mother.genotype), q, save_at);
+        self.population
+            .enter(newborn(self.next_birth, block, genotype));
         self.census.born(genotype);
         mother.daughter = None;
         mother.moved = 0;

@@ -56,6 +56,7 @@ impl World {
         self.running
     }
 
+    /// The settings of the world.
     pub fn settings(&self) -> &Settings
         ensures settings { result.now ≡ self.now.world.settings }
         ensures sound { IsSound self.now.world }
@@ -63,18 +64,21 @@ impl World {
         self.running.settings()
     }
 
+    /// How many quanta have ended.
     pub fn quanta(&self) -> u64
         ensures { result ≡ self.now.world.quanta }
     {
         self.running.quanta()
     }
 
+    /// How many were born; those of the start are not counted.
     pub fn births(&self) -> u64
         ensures { result ≡ self.now.world.births }
     {
         self.running.births()
     }
 
+    /// How many died.
     pub fn deaths(&self) -> u64
         ensures { result ≡ self.now.world.deaths }
     {
@@ -109,12 +113,14 @@ impl World {
         self.running.filled()
     }
 
+    /// The genotypes in the order of first birth.
     pub fn genotypes(&self) -> &Genotypes
         ensures { result.now.genotypes ≡ self.now.world.genotypes }
     {
         self.running.genotypes()
     }
 
+    /// How many of each genotype live.
     pub fn census(&self) -> &Census
         ensures { (g : ℕ) → living_of result.now g ≡ number_with self.now.world.living g }
     {

@@ -1,4 +1,4 @@
-use Rattle.std.proofs.Common.{◌≡◌, ◌∙◌, ◌+◌, ◌<◌, ℕ, suc, List, [], ◌∷◌, ap, arith, drop, drop-cons, get_or, length, subst, sym}
+use Rattle.std.proofs.Common.{◌≡◌, ◌∙◌, ◌+◌, ℕ, suc, List, ◌∷◌, ap, arith, drop, drop-cons, get_or, subst}
 use Rattle.tierra_model.specs.declared.events.Event.{Event}
 use Rattle.tierra_model.specs.declared.events.Event.TheVariants as event
 use Rattle.world_core.proofs.Replaying.{Doing, doing-next, doing-none}

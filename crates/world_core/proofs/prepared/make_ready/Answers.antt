@@ -1,9 +1,7 @@
-use Rattle.std.proofs.Common.{◌≡◌, ◌∙◌, ◌+◌, ◌<◌, ℕ, List, [], ◌∷◌, ◌++◌, true, ap, arith, get_or, length, subst, sym, take}
+use Rattle.std.proofs.Common.{◌∙◌, arith, get_or, length, subst, sym, take}
 use Rattle.std.proofs.lemmas.List.{take_more}
-use Rattle.tierra_model.specs.declared.events.Event.{Event}
 use Rattle.tierra_model.specs.declared.events.Event.TheVariants as event
 use Rattle.tierra_model.specs.World.{World}
-use Rattle.world_core.specs.Running.{can_be_set}
 use Rattle.world_core.specs.Prepared.{CanWriteAll, WritesBelow}
 use Rattle.world_core.proofs.Preparing.{can_write-append, writes-below}
 use Rattle.world_core.proofs.Replaying.{can_write_all-kept}
@@ -21,11 +19,10 @@ loop-event-preserved c =
     let es = c.args.events.now in
     let i = c.loop-event.event-index in
     let before = c.loop-event.invariant in
-    let after = c.in_ok-make_cell_ready.ensures in
-    (
+    let after = c.in_ok-make_cell_ready.ensures in (
       after.world ∙ before.0,
       (λ p h. after.kept p (before.1 p h)),
       subst (CanWriteAll c.make_cell_ready.new.running) (sym (take_more es i (event.Write 0 0) (omega arith)))
-      (can_write-append c.make_cell_ready.new.running (take i es) (get_or es i (event.Write 0 0))
-      (can_write_all-kept (take i es) c.loop-event.running c.make_cell_ready.new.running after.kept before.2) after.ok),
+          (can_write-append c.make_cell_ready.new.running (take i es) (get_or es i (event.Write 0 0))
+          (can_write_all-kept (take i es) c.loop-event.running c.make_cell_ready.new.running after.kept before.2) after.ok),
     )

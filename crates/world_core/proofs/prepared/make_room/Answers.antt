@@ -1,4 +1,4 @@
-use Rattle.std.proofs.Common.{◌≡◌, ◌∙◌, ◌<◌, ◌≤◌, ◌^◌, ℕ, List, Ok, Err, arith, length, rules}
+use Rattle.std.proofs.Common.{◌≡◌, ◌∙◌, ◌<◌, ◌^◌, ℕ, List, Ok, Err, arith, length, rules}
 use Rattle.std.specs.Prelude.{IfOk}
 use Rattle.world_core.specs.Running.{WorldFields}
 use Rattle.world_core.specs.Prepared.{CanWriteAll, HasRoomFor, codes_born}

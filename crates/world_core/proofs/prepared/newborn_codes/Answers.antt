@@ -1,4 +1,4 @@
-use Rattle.std.proofs.Common.{◌≡◌, ◌∙◌, ◌+◌, ◌<◌, ◌≤◌, ℕ, List, [], ◌∷◌, ◌++◌, ap, arith, get_or, length, rules, subst, sym, take}
+use Rattle.std.proofs.Common.{◌≡◌, ◌∙◌, ◌+◌, ◌<◌, ◌≤◌, [], ◌∷◌, ◌++◌, ap, get_or, length, rules, subst, sym, take}
 use Rattle.std.specs.Prelude.{IfSome, Option}
 use Rattle.std.proofs.lemmas.List.{take_more}
 use Rattle.tierra_model.specs.declared.creatures.Block.{Block}
@@ -33,11 +33,10 @@ loop-i-preserved c =
     let more : take (i + 1) all ≡ es ++ e ∷ [] = take_more all i (event.Write 0 0) within in
     let can = can-at w all i (event.Write 0 0) within c.requires.can in
     let front_is = front-after w es c.requires.sound (can-first w all i c.requires.can) in
-    let next : after_events w (take (i + 1) all) ≡ apply_event (after_events w es) e = ap (after_events w) more ∙ after-append w es e in
-    (
+    let next : after_events w (take (i + 1) all) ≡ apply_event (after_events w es) e = ap (after_events w) more ∙ after-append w es e in (
       c.daughter_after-held.ensures ∙ ap (daughter_after e) c.loop-i.invariant.0 ∙ sym (daughter-event (after_events w es) e front_is can)
-      ∙ ap (λ (v : World). (front v).daughter) (sym next),
+          ∙ ap (λ (v : World). (front v).daughter) (sym next),
       c.in_ok-push_code.ensures
-      ∙ (λ j. c.loop-i.invariant.1 j ++ code_at e (c.loop-i.invariant.0 j) (sym (soup-events w es) j))
-      ∙ sym (codes-append w es e) ∙ ap (codes_born w) (sym more),
+          ∙ (λ j. c.loop-i.invariant.1 j ++ code_at e (c.loop-i.invariant.0 j) (sym (soup-events w es) j))
+          ∙ sym (codes-append w es e) ∙ ap (codes_born w) (sym more),
     )

@@ -1,5 +1,5 @@
-use Rattle.std.proofs.Common.{◌≡◌, ◌∙◌, ◌+◌, ◌<◌, ◌≤◌, ◌^◌, ℕ, List, [], ◌∷◌, ◌++◌, arith, length, sym}
-use Rattle.world_core.proofs.Cells.{copied-more, copied-none}
+use Rattle.std.proofs.Common.{◌∙◌, ◌+◌, ◌<◌, ◌≤◌, ◌^◌, [], ◌∷◌, ◌++◌, arith, length, sym}
+use Rattle.world_core.proofs.Cells.{copied-more}
 use Rattle.world_core.proofs.running.code_of.Goals as goal
 
 pub overflow_add-at-end : goal.overflow_add-at-end
@@ -15,8 +15,7 @@ loop-at-preserved c =
     let lies : c.args.block.at + c.args.block.size ≤ length cells = c.requires.lies in
     let before = c.loop-at.invariant in
     let room = before.1 in
-    let long = before.2 in
-    (
+    let long = before.2 in (
       c.push_reserved.ensures.items ∙ (λ i. before.0 i ++ c.get.ensures.value i ∷ []) ∙ sym (copied-more cells c.args.block.at at (omega arith) (omega arith)),
       rw c.push_reserved.ensures.capacity room,
       omega (arith, c.push_reserved.ensures.len),

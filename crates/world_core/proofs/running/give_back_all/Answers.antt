@@ -1,5 +1,4 @@
-use Rattle.std.proofs.Common.{◌≡◌, ◌<◌, ◌∙◌, ℕ, Bool, true, false, List, ap, subst, sym, arith}
-use Rattle.std.proofs.lemmas.Bool.Decides.{nat_tests}
+use Rattle.std.proofs.Common.{◌≡◌, ◌∙◌, ℕ, Bool, true, false, List, ap, sym}
 use Rattle.std.specs.Prelude.{◌||◌}
 use Rattle.tierra_model.specs.declared.creatures.Block.{Block}
 use Rattle.tierra_model.specs.Blocks.{is_in, is_in_daughter}

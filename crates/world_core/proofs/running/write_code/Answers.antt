@@ -1,5 +1,4 @@
-use Rattle.std.proofs.Common.{◌≡◌, ◌∙◌, ◌+◌, ◌<◌, ◌≤◌, ℕ, List, ap, arith, get_or, length, rules, set, sym, take}
-use Rattle.tierra_model.specs.Serial.{overwrite}
+use Rattle.std.proofs.Common.{◌≡◌, ◌∙◌, ◌+◌, ◌<◌, ◌≤◌, get_or, length, rules, set}
 use Rattle.world_core.proofs.Cells.{overwrite-more}
 use Rattle.world_core.proofs.running.write_code.Goals as goal
 

@@ -1,7 +1,7 @@
-use Rattle.std.proofs.Common.{◌≡◌, ◌∙◌, ◌+◌, ◌<◌, ℕ, suc, List, [], ◌∷◌, add-one, ap, arith, drop, drop-cons, get_or, length, refl, subst, sym}
+use Rattle.std.proofs.Common.{◌≡◌, ◌∙◌, ◌+◌, ◌<◌, ℕ, suc, List, ◌∷◌, ap, arith, drop, drop-cons, get_or, length, refl, subst, sym}
 use Rattle.tierra_model.specs.declared.setups.Inoculum.{Inoculum}
 use Rattle.tierra_model.specs.World.{World}
-use Rattle.tierra_model.specs.Serial.{empty_world, with_inocula}
+use Rattle.tierra_model.specs.Serial.{with_inocula}
 use Rattle.world_core.specs.Starting.{CanInoculate, inoculated}
 use Rattle.world_core.proofs.Starting.{Fills, fills-can, fills-next, fills-none}
 use Rattle.world_core.proofs.world.inoculate_all.Goals as goal
@@ -15,8 +15,7 @@ split xs i x h e = drop-cons xs i x h ∙ (λ j. (sym e j) ∷ drop (next j) xs)
 
 pub loop-inoculum-init : goal.loop-inoculum-init
 loop-inoculum-init c =
-    let s = c.args.running.now.world.settings in
-    (
+    let s = c.args.running.now.world.settings in (
       subst (λ (w : World). Fills s c.args.creatures.now w) (sym c.requires.empty) (fills-none (record { settings = s; creatures = c.args.creatures.now }) c.requires.setup),
       refl,
     )
@@ -42,8 +41,7 @@ loop-inoculum-preserved c =
     let left : drop i xs ≡ x ∷ drop (i + 1) xs = split xs i x (omega arith) c.inoculum-item.is in
     let fills = subst (λ (l : List Inoculum). Fills s l w) left c.loop-inoculum.invariant.0 in
     let next : c.inoculate.new.self.world ≡ inoculated w x.at x.code
-    = c.in_ok-inoculate.ensures ∙ (λ j. inoculated (c.in_ok-reserve.ensures.world j) x.at (c.in_ok-code.ensures j)) in
-    (
+    = c.in_ok-inoculate.ensures ∙ (λ j. inoculated (c.in_ok-reserve.ensures.world j) x.at (c.in_ok-code.ensures j)) in (
       subst (Fills s (drop (i + 1) xs)) (sym next) (fills-next s x (drop (i + 1) xs) w fills),
       ap (with_inocula (drop (i + 1) xs)) next ∙ ap (λ (l : List Inoculum). with_inocula l w) (sym left) ∙ c.loop-inoculum.invariant.1,
     )

@@ -1,6 +1,5 @@
 use Rattle.std.proofs.Common.{◌≡◌, ◌==◌, ◌∙◌, Some, None, ap, subst, sym}
 use Rattle.std.specs.Prelude.{find}
-use Rattle.std.specs.Option.{option_copied}
 use Rattle.world_core.specs.Living.{LivingFields}
 use Rattle.world_core.proofs.BirthNumbers.{found-at, none-found}
 use Rattle.world_core.proofs.living.Living.get.Goals as goal

@@ -1,5 +1,4 @@
-use Rattle.std.proofs.Common.{◌≡◌, ◌∙◌, ◌<◌, ◌≤◌, ℕ, List, [], ◌∷◌, ◌++◌, ap, refl, subst, sym, arith}
-use Rattle.tierra_model.specs.declared.creatures.Creature.{Creature}
+use Rattle.std.proofs.Common.{◌≡◌, ◌∙◌, ℕ, List, [], ◌∷◌, ◌++◌, ap, subst, sym, arith}
 use Rattle.tierra_model.specs.Counting.{times_in}
 use Rattle.tierra_model.specs.Living.{ids_of}
 use Rattle.reaper_queue.specs.Queue.{ids_of as entry_ids}

@@ -1,4 +1,4 @@
-use Rattle.std.proofs.Common.{◌≡◌, ◌∙◌, ◌<◌, ◌==◌, ℕ, List, ap, subst, sym}
+use Rattle.std.proofs.Common.{◌∙◌, ◌==◌, ap, subst, sym}
 use Rattle.tierra_model.specs.Living.{one_of}
 use Rattle.tierra_model.specs.Queue.{good_move}
 use Rattle.reaper_queue.specs.Queue.{errors_of, ids_of as entry_ids, is_of}

@@ -1,6 +1,5 @@
-use Rattle.std.proofs.Common.{◌≡◌, ◌∙◌, ◌<◌, ◌==◌, Some, None, refl, subst, sym}
-use Rattle.std.specs.Prelude.{IsSome, Option, find, option_copied}
-use Rattle.tierra_model.specs.declared.creatures.Creature.{Creature}
+use Rattle.std.proofs.Common.{◌≡◌, ◌∙◌, ◌<◌, Some, None, refl, subst, sym}
+use Rattle.std.specs.Prelude.{IsSome, option_copied}
 use Rattle.tierra_model.specs.Counting.{times_in}
 use Rattle.tierra_model.specs.Living.{ids_of, one_of}
 use Rattle.world_core.specs.Population.{PopulationFields}

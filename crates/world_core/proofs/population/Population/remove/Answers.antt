@@ -1,6 +1,5 @@
-use Rattle.std.proofs.Common.{◌≡◌, ◌∙◌, ◌==◌, ℕ, List, ap, subst, sym}
+use Rattle.std.proofs.Common.{◌∙◌, ◌==◌, ℕ, ap, subst, sym}
 use Rattle.std.specs.Prelude.{filter, not}
-use Rattle.tierra_model.specs.declared.creatures.Creature.{Creature}
 use Rattle.tierra_model.specs.Living.{without}
 use Rattle.reaper_queue.specs.Queue.{ids_of as entry_ids}
 use Rattle.world_core.specs.Population.{PopulationFields, entries_of}

@@ -1,31 +1,21 @@
-use Rattle.std.proofs.Common.{◌≡◌, ◌∙◌, ◌<◌, ◌≤◌, ◌+◌, ◌^◌, ◌==◌, ℕ, List, true, false, None, Some, ap, arith, length, refl, subst, sym}
-use Rattle.std.specs.Prelude.{slice_index}
+use Rattle.std.proofs.Common.{◌≡◌, ◌∙◌, ◌<◌, ◌+◌, ◌^◌, ◌==◌, ℕ, List, None, Some, ap, arith, length, refl, subst, sym}
 use Rattle.tierra_model.specs.declared.creatures.Creature.{Creature}
 use Rattle.tierra_model.specs.declared.events.Event.TheVariants as event
 use Rattle.tierra_model.specs.Counting.{times_in}
-use Rattle.tierra_model.specs.Living.{ids_of, one_of, with_record}
-use Rattle.tierra_model.specs.Blocks.{is_in}
-use Rattle.tierra_model.specs.Events.{apply_event, record_after}
-use Rattle.tierra_model.specs.Room.{holds}
+use Rattle.tierra_model.specs.Living.{ids_of, with_record}
+use Rattle.tierra_model.specs.Events.{apply_event}
 use Rattle.tierra_model.specs.World.{World, front}
-use Rattle.tierra_model.specs.Sound.{IsPlaced, owners}
 use Rattle.world_core.specs.Running.{IsRunning, WorldFields}
-use Rattle.world_core.specs.Tied.{AreTied}
 use Rattle.world_core.specs.contracts.running.Running.{the_view}
-use Rattle.std.proofs.Common.{[], ◌∷◌, ◌++◌, Bool}
-use Rattle.std.specs.Prelude.{All, IfSome, IsSome, Option, slice_range}
+use Rattle.std.specs.Prelude.{All, IfSome, Option, slice_range}
 use Rattle.tierra_model.specs.declared.creatures.Block.{Block}
-use Rattle.tierra_model.specs.declared.creatures.Effort.{Effort}
 use Rattle.tierra_model.specs.Counting.{one_if}
-use Rattle.tierra_model.specs.Individuals.{with_effort_of, with_individual}
-use Rattle.tierra_model.specs.Living.{newborn}
+use Rattle.tierra_model.specs.Individuals.{with_individual}
 use Rattle.tierra_model.specs.Ranges.{IsCode}
-use Rattle.tierra_model.specs.World.{Genotype}
 use Rattle.tierra_model.proofs.WithinQuantum.{code_of_block}
 use Rattle.census.specs.Census.{living_of}
 use Rattle.world_core.specs.declared.running.Running.TheInside.{Inside}
 use Rattle.tierra_model.specs.Individuals.{savings_after}
-use Rattle.world_core.specs.Running.{number_with}
 use Rattle.world_core.proofs.Within.{daughter_block, genotype_front, here_front, one_front, placed_front, small_front}
 use Rattle.world_core.proofs.Numbered.{totals-with_effort}
 use Rattle.world_core.proofs.Tying.{Puts, few_counted, here-entered, one-entered, puts-entered, tied-born}

@@ -1,22 +1,16 @@
-use Rattle.std.proofs.Common.{◌≡◌, ◌∙◌, ◌<◌, ◌≤◌, ◌+◌, ◌^◌, ◌==◌, ℕ, List, true, false, None, Some, ap, arith, length, refl, subst, sym}
-use Rattle.std.specs.Prelude.{slice_index}
+use Rattle.std.proofs.Common.{◌≡◌, ◌∙◌, ◌<◌, List, true, None, ap, refl, subst, sym}
 use Rattle.tierra_model.specs.declared.creatures.Creature.{Creature}
 use Rattle.tierra_model.specs.declared.events.Event.TheVariants as event
-use Rattle.tierra_model.specs.Counting.{times_in}
-use Rattle.tierra_model.specs.Living.{ids_of, one_of, with_record}
 use Rattle.tierra_model.specs.declared.creatures.Block.{Block}
 use Rattle.tierra_model.specs.FreeList.{is_in_some}
 use Rattle.tierra_model.specs.Events.{apply_event, record_after}
 use Rattle.tierra_model.specs.Room.{holds}
-use Rattle.tierra_model.specs.World.{World, front}
-use Rattle.tierra_model.specs.Sound.{IsPlaced, owners}
 use Rattle.world_core.specs.Running.{IsRunning, WorldFields}
-use Rattle.world_core.specs.Tied.{AreTied}
 use Rattle.world_core.specs.contracts.running.Running.{the_view}
-use Rattle.world_core.proofs.Within.{daughter_block, placed_front, here_front, one_front, queued_front, small_front}
+use Rattle.world_core.proofs.Within.{daughter_block, placed_front, here_front, one_front}
 use Rattle.world_core.proofs.Ownership.{held_daughter, in_block, owned_is_not_free, owns_held}
-use Rattle.world_core.proofs.Tying.{Puts, tied-died, tied-given_up, tied-put, tied-taken}
-use Rattle.world_core.proofs.EventWorlds.{after-err, after-give_up, after-good, after-mal, after-reap, with_lists}
+use Rattle.world_core.proofs.Tying.{tied-given_up}
+use Rattle.world_core.proofs.EventWorlds.{after-give_up, with_lists}
 use Rattle.world_core.proofs.running.Running.give_up.Goals as goal
 
 pub give_back-requires-clause-within : goal.give_back-requires-clause-within

@@ -1,18 +1,8 @@
-use Rattle.std.proofs.Common.{◌≡◌, ◌∙◌, ◌<◌, ◌≤◌, ◌+◌, ◌^◌, ◌==◌, ℕ, List, true, false, None, Some, ap, arith, length, refl, rules, subst, sym}
-use Rattle.std.specs.Prelude.{slice_index}
+use Rattle.std.proofs.Common.{◌≡◌, ◌∙◌, ◌<◌, ◌+◌, ◌^◌, ◌==◌, ℕ, List, true, ap, arith, length, rules, subst, sym}
 use Rattle.tierra_model.specs.declared.creatures.Creature.{Creature}
-use Rattle.tierra_model.specs.declared.events.Event.TheVariants as event
-use Rattle.tierra_model.specs.Counting.{times_in}
-use Rattle.tierra_model.specs.Living.{ids_of, one_of, with_record}
 use Rattle.tierra_model.specs.Blocks.{is_in}
-use Rattle.tierra_model.specs.Events.{apply_event, record_after}
-use Rattle.tierra_model.specs.Room.{holds}
-use Rattle.tierra_model.specs.World.{World, front}
-use Rattle.tierra_model.specs.Sound.{IsPlaced, owners}
-use Rattle.world_core.specs.Running.{IsRunning, WorldFields}
-use Rattle.world_core.specs.Tied.{AreTied}
+use Rattle.world_core.specs.Running.{WorldFields}
 use Rattle.world_core.specs.contracts.running.Running.{the_view}
-use Rattle.std.proofs.Common.{[], ◌∷◌, ◌++◌, Bool}
 use Rattle.tierra_model.specs.declared.creatures.Block.{Block}
 use Rattle.std.specs.Prelude.{not, ◌&&◌}
 use Rattle.tierra_model.specs.FreeList.{is_in_some, runs_of}

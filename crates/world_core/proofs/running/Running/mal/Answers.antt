@@ -1,9 +1,6 @@
-use Rattle.std.proofs.Common.{◌≡◌, ◌∙◌, ◌<◌, ◌≤◌, ◌+◌, ◌^◌, ◌==◌, ℕ, List, true, false, None, Some, ap, arith, length, refl, subst, sym}
-use Rattle.std.specs.Prelude.{slice_index}
+use Rattle.std.proofs.Common.{◌≡◌, ◌∙◌, ◌<◌, ◌≤◌, ◌+◌, ◌^◌, List, None, Some, ap, arith, refl, subst, sym}
 use Rattle.tierra_model.specs.declared.creatures.Creature.{Creature}
 use Rattle.tierra_model.specs.declared.events.Event.TheVariants as event
-use Rattle.tierra_model.specs.Counting.{times_in}
-use Rattle.tierra_model.specs.Living.{ids_of, one_of, with_record}
 use Rattle.std.specs.Prelude.{ℤ}
 use mir.Syntax.{w32}
 use mir.Val.{to_z}
@@ -12,17 +9,12 @@ use Rattle.tierra_model.specs.FreeList.{is_in_some}
 use Rattle.tierra_model.specs.Replay.{CanHappen}
 use Rattle.world_core.proofs.Registers.{as_register}
 use Rattle.tierra_model.specs.Events.{apply_event, record_after}
-use Rattle.tierra_model.specs.Room.{holds}
-use Rattle.tierra_model.specs.World.{World, front}
-use Rattle.tierra_model.specs.Sound.{IsPlaced, owners}
 use Rattle.world_core.specs.Running.{IsRunning, WorldFields}
-use Rattle.world_core.specs.Tied.{AreTied}
 use Rattle.world_core.specs.contracts.running.Running.{the_view}
-use Rattle.world_core.proofs.Within.{front_placed, here_front, one_front, queued_front, small_front}
-use Rattle.world_core.proofs.Ownership.{free_is_not_owned, in_block, owned_is_not_free}
-use Rattle.world_core.proofs.Tying.{Puts, tied-died, tied-given_up, tied-put, tied-taken}
-use Rattle.world_core.proofs.EventWorlds.{after-err, after-give_up, after-good, after-mal, after-reap, with_lists}
-use Rattle.std.specs.Prelude.{pos}
+use Rattle.world_core.proofs.Within.{here_front, one_front}
+use Rattle.world_core.proofs.Ownership.{free_is_not_owned, in_block}
+use Rattle.world_core.proofs.Tying.{tied-taken}
+use Rattle.world_core.proofs.EventWorlds.{after-mal, with_lists}
 use Rattle.world_core.proofs.running.Running.mal.Goals as goal
 
 pub take-requires-clause-free : goal.take-requires-clause-free

@@ -1,20 +1,15 @@
-use Rattle.std.proofs.Common.{◌≡◌, ◌∙◌, ◌<◌, ◌≤◌, ◌+◌, ◌^◌, ◌==◌, ℕ, List, true, false, None, Some, ap, arith, length, refl, subst, sym}
+use Rattle.std.proofs.Common.{◌≡◌, ◌∙◌, ◌<◌, ◌+◌, ℕ, List, ap, length, subst, sym}
 use Rattle.std.specs.Prelude.{slice_index}
 use Rattle.tierra_model.specs.declared.creatures.Creature.{Creature}
 use Rattle.tierra_model.specs.declared.events.Event.TheVariants as event
 use Rattle.tierra_model.specs.Counting.{times_in}
-use Rattle.tierra_model.specs.Living.{ids_of, one_of, with_record}
-use Rattle.tierra_model.specs.Blocks.{is_in}
-use Rattle.tierra_model.specs.Events.{apply_event, record_after}
-use Rattle.tierra_model.specs.Room.{holds}
-use Rattle.tierra_model.specs.World.{World, front}
-use Rattle.tierra_model.specs.Sound.{IsPlaced, owners}
+use Rattle.tierra_model.specs.Living.{ids_of, one_of}
+use Rattle.tierra_model.specs.Events.{apply_event}
+use Rattle.tierra_model.specs.World.{World}
+use Rattle.tierra_model.specs.Sound.{IsPlaced}
 use Rattle.world_core.specs.Running.{IsRunning, WorldFields}
-use Rattle.world_core.specs.Tied.{AreTied}
 use Rattle.world_core.specs.contracts.running.Running.{the_view}
-use Rattle.std.proofs.Common.{Bool}
-use Rattle.std.specs.Prelude.{filter, not, ◌||◌}
-use Rattle.tierra_model.specs.Blocks.{is_in_daughter}
+use Rattle.std.specs.Prelude.{not}
 use Rattle.tierra_model.specs.FreeList.{is_in_some, runs_of}
 use Rattle.tierra_model.specs.Room.{is_owned}
 use Rattle.tierra_model.specs.declared.creatures.Block.{Block}

@@ -1,5 +1,4 @@
-use Rattle.std.proofs.Common.{◌≡◌, ◌∙◌, ◌+◌, ◌<◌, ℕ, List, ap, arith, length, rules, subst, sym}
-use Rattle.tierra_model.specs.declared.events.Event.{Event}
+use Rattle.std.proofs.Common.{◌≡◌, ◌∙◌, ◌<◌, ap, length, subst, sym}
 use Rattle.tierra_model.specs.World.{World, put}
 use Rattle.tierra_model.specs.Events.{turn_end}
 use Rattle.tierra_model.specs.Replay.{after_events, replay}

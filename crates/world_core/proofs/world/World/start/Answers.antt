@@ -1,9 +1,7 @@
-use Rattle.std.proofs.Common.{◌≡◌, ◌∙◌, List, ap, rules, subst, sym}
-use Rattle.tierra_model.specs.declared.setups.Inoculum.{Inoculum}
+use Rattle.std.proofs.Common.{◌≡◌, ◌∙◌, ap, rules, subst, sym}
 use Rattle.tierra_model.specs.Serial.{empty_world, start, with_inocula}
 use Rattle.tierra_model.specs.Setups.{SetupFields}
 use Rattle.tierra_model.specs.Sound.{IsSound}
-use Rattle.tierra_model.specs.World.{World}
 use Rattle.tierra_model.proofs.StartIsSound.{start-sound}
 use Rattle.world_core.proofs.world.World.start.Goals as goal
 use Rattle.world_core.proofs.world.World.start.Goals.{In_ok-inoculate_all}
