@@ -1,5 +1,5 @@
 -- Creatures read in order, each checked after those before it.
-use Rattle.std.proofs.Common.{◌≡◌, ◌∙◌, ℕ, zero, suc, ◌+◌, ◌-◌, ◌<◌, ◌≤◌, List, [], ◌∷◌, ◌++◌, Option, Some, None, ap, ap₂, get_or, length, map, option_map, refl, subst, sym, take, arith, length-append}
+use Rattle.std.proofs.Common.{◌≡◌, ◌∙◌, ℕ, ◌+◌, ◌-◌, ◌<◌, ◌≤◌, List, [], ◌∷◌, ◌++◌, Option, Some, None, ap, ap₂, get_or, length, map, option_map, refl, subst, sym, take, arith, length-append}
 use Rattle.std.specs.Prelude.{flat_map, position}
 use Rattle.std.specs.List.{enumerate_from}
 use Rattle.std.proofs.lemmas.List.{get_or-map, length-map, map_push, take_all, take_more}
@@ -9,7 +9,7 @@ use Rattle.tierra_model.specs.declared.setups.Inoculum.{Inoculum}
 use Rattle.soup_file.specs.declared.fault.FileFault.{FileFault}
 use Rattle.soup_file.specs.declared.fault.FileFault.TheVariants.{Overlap}
 use Rattle.soup_file.specs.Keys.{first_fault}
-use Rattle.soup_file.specs.Creatures.{LieApart, all_creature_checks, checks_among, creature_checks, do_share, inocula_of, inoculum_of, overlap, own_checks, share_a_cell}
+use Rattle.soup_file.specs.Creatures.{LieApart, all_creature_checks, checks_among, creature_checks, inocula_of, inoculum_of, overlap, own_checks, share_a_cell}
 use Rattle.soup_file.proofs.Apart.{sharing}
 use Rattle.soup_file.proofs.Checks.{failed-append, failed-at, none-more, passed-append}
 

@@ -1,5 +1,5 @@
 -- A soup file tells one setup, and has no fault.
-use Rattle.std.proofs.Common.{◌≡◌, ◌∙◌, ◌≤◌, ℕ, List, [], ◌∷◌, Option, Some, None, Result, Ok, Err, ap, ap₂, inl, inr, map, refl, subst, sym}
+use Rattle.std.proofs.Common.{◌≡◌, ◌∙◌, ◌≤◌, ℕ, List, [], ◌∷◌, Some, Result, Ok, ap, ap₂, inl, inr, map, refl, subst, sym}
 use Rattle.std.proofs.Props.{props}
 use mathlib.Core.HLevel.{is_prop→PathP}
 use Rattle.toml.specs.Data.{Members}
@@ -84,8 +84,8 @@ one-setup-of document a b p q =
     let settings = one-settings document a.settings b.settings p.settings q.settings in
     let tables = same (creature_tables document) p.creatures q.creatures p.tables q.tables in
     let inocula = p.inocula
-        ∙ ap₂ (λ (s : Settings) (ts : List Members). inocula_of s.soup_size ts) settings tables
-        ∙ sym q.inocula in
+    ∙ ap₂ (λ (s : Settings) (ts : List Members). inocula_of s.soup_size ts) settings tables
+    ∙ sym q.inocula in
     let creatures = map-some a.creatures b.creatures inocula in
     λ i. record { settings = settings i; creatures = creatures i }
 

@@ -1,5 +1,5 @@
 -- The creatures of a soup file.
-use Rattle.std.specs.Prelude.{ℕ, ◌+◌, ◌-◌, ◌≡◌, ◌≤◌, ◌&&◌, All, Bool, false, List, [], ◌∷◌, ◌++◌, flat_map, if◌then◌else◌, length, map, nat_lt, option_map, position, take, Option, Some, None, Result, Ok, Err}
+use Rattle.std.specs.Prelude.{ℕ, ◌+◌, ◌-◌, ◌≤◌, ◌&&◌, All, Bool, false, List, [], ◌∷◌, ◌++◌, flat_map, if◌then◌else◌, length, map, nat_lt, option_map, position, take, Option, Some, None, Result, Ok, Err}
 use Rattle.std.specs.List.{enumerate_from}
 use Rattle.std.specs.Result.{result_err}
 use Rattle.toml.specs.Data.{Data, as_array, as_table, Items, no_items, item, Members}
@@ -12,11 +12,10 @@ use Rattle.tierra_asm.specs.declared.AsmFault.{AsmFault}
 use Rattle.tierra_asm.specs.Listing.{listing_of}
 use Rattle.soup_file.specs.declared.fault.FileFault.{FileFault}
 use Rattle.soup_file.specs.declared.fault.FileFault.TheVariants.{Listing, NoCreature, Overlap}
-use Rattle.soup_file.specs.declared.key.Key.{Key}
 use Rattle.soup_file.specs.declared.key.Key.TheVariants.{Creature, At, Code}
 use Rattle.soup_file.specs.declared.key.KeyFault.{KeyFault}
 use Rattle.soup_file.specs.declared.key.KeyFault.TheVariants.{Missing, OutOfRange, WrongKind}
-use Rattle.soup_file.specs.Keys.{file_fault, first_fault, in_a_creature, number_in, read_at, text_in, unknown_key}
+use Rattle.soup_file.specs.Keys.{file_fault, in_a_creature, number_in, read_at, text_in, unknown_key}
 
 -- the tables that items are, if each is one
 abbrev pub and_tables : Option Members → Option (List Members) → Option (List Members)

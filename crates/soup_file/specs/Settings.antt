@@ -4,7 +4,7 @@ use Rattle.std.specs.Result.{result_err}
 use Rattle.toml.specs.Data.{Members}
 use Rattle.tierra_model.specs.declared.parameters.Settings.{Settings}
 use Rattle.soup_file.specs.declared.key.Key.{Key}
-use Rattle.soup_file.specs.declared.key.Key.TheVariants.{SoupSize, SliceSize, SliceBySize, SliceNum, SliceDen, SearchLimit, MinTemplate, MinCell, MaxCell, MalMult, FillPercent, MovePercent, SaveAt, BackRate, CopyRate, FlawRate, Seed, DistEvery, DistPercent, Creature, At, Code}
+use Rattle.soup_file.specs.declared.key.Key.TheVariants.{SoupSize, SliceSize, SliceBySize, SliceNum, SliceDen, SearchLimit, MinTemplate, MinCell, MaxCell, MalMult, FillPercent, MovePercent, SaveAt, BackRate, CopyRate, FlawRate, Seed, DistEvery, DistPercent}
 use Rattle.soup_file.specs.declared.key.KeyFault.{KeyFault}
 use Rattle.soup_file.specs.declared.key.KeyFault.TheVariants.{OutOfRange}
 use Rattle.soup_file.specs.Keys.{bytes_in, flag_in, number_in, read_at}

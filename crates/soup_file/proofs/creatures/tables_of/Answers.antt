@@ -1,4 +1,4 @@
-use Rattle.std.proofs.Common.{◌≡◌, ◌∙◌, ◌⊎◌, ◌++◌, ◌∷◌, [], Some, ap, inl, inr, map, sym, take}
+use Rattle.std.proofs.Common.{◌∙◌, ◌⊎◌, ◌++◌, ◌∷◌, [], Some, ap, inl, inr, map, sym, take}
 use Rattle.std.proofs.lemmas.List.{map_push, take_more}
 use Rattle.toml.specs.View.{items_view, table_view}
 use Rattle.soup_file.specs.Creatures.{tables_of}

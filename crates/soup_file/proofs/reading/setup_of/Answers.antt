@@ -1,4 +1,4 @@
-use Rattle.std.proofs.Common.{◌≡◌, ◌∙◌, ◌⊎◌, Some, ap, arith, inl, inr, map, sym}
+use Rattle.std.proofs.Common.{◌∙◌, ◌⊎◌, Some, ap, arith, inl, inr, map, sym}
 use Rattle.std.proofs.lemmas.Grind.{common_steps}
 use Rattle.toml.specs.View.{table_view}
 use Rattle.soup_file.specs.declared.fault.FileFault.{FileFault}
