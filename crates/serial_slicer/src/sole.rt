@@ -41,10 +41,9 @@ impl Model for Sole {
 
 impl View for Sole {
     ghost use Rattle.std.specs.Prelude.{◌||◌, slice_set};
-    ghost use Rattle.std.proofs.Common.{arith, get_or-set_other, length-set, refl};
-    ghost use Rattle.std.proofs.lemmas.Grind.{get_or-set_at};
-    ghost use Rattle.std.proofs.lemmas.Bool.Decides.{nat_tests};
+    ghost use Rattle.std.proofs.Common.{length-set, refl};
     ghost use Rattle.tierra_model.specs.Blocks.{is_in, is_in_daughter};
+    ghost use Rattle.serial_slicer.specs.Written.{cell-set};
 
     ghost size = { λ v. length v.world.soup };
 
@@ -64,7 +63,7 @@ impl View for Sole {
 
     ghost write_keeps_size = { λ v p x _ _ _. length-set v.world.soup p x };
 
-    ghost write_sets_cell = { λ v p x q here _ _ there. Prim.grind (arith, nat_tests, get_or-set_at, get_or-set_other) };
+    ghost write_sets_cell = { λ v p x q here _ _ there. cell-set v.world.soup p x q here };
 
     ghost write_keeps_writable = { λ v p x q _ _ _. refl };
 
