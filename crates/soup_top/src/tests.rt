@@ -45,7 +45,14 @@ fn call(
         all.push(String::from_str(alloc, word)?)?;
     }
     let mut source = MemSource::new(bytes.to_vec(alloc)?, cut, read_fails.to_vec(alloc)?);
-    let mut desk = MemDesk::new(alloc, tell_fails.to_vec(alloc)?);
+    let image = Vec::new(alloc);
+    let mut desk = MemDesk::new(
+        alloc,
+        image,
+        Vec::new(alloc),
+        tell_fails.to_vec(alloc)?,
+        None,
+    );
     let status = tierra(alloc, &all, &mut source, &mut desk);
     Ok((status, desk.told().as_slice().to_vec(alloc)?))
 }

@@ -3,6 +3,7 @@
 ghost use Rattle.std.specs.Prelude.{IsUtf8, ◌≡◌, ◌⊎◌, ◌+◌, ◌<◌, ◌≤◌, ◌++◌, ℕ, List, [], Some, IfOk, IfErr, IfSome, OnOk, length, map, not, position, take, string_bytes};
 ghost use Rattle.std.specs.List.{AllPass};
 ghost use Rattle.tierra_model.specs.Ranges.{IsCode};
+ghost use Rattle.desk_io.specs.Desk.{Same};
 ghost use Rattle.soup_top.specs.Lone.{is_built};
 ghost use Rattle.tierra_asm.specs.Listing.{listing_of};
 ghost use Rattle.soup_top.specs.Words.{IsOrder};
@@ -203,7 +204,8 @@ pub fn tierra<S: Source, D: Desk>(
     desk: &mut D,
 ) -> Status
     requires source_sound { S.faults source.old ≡ 0 }
-    requires desk_sound { D.tell_faults desk.old ≡ 0 }
+    requires disk_sound { D.disk_faults desk.old ≡ 0 }
+    requires tell_sound { D.tell_faults desk.old ≡ 0 }
 
     // Done tells the whole text, and nothing else.
     ensures done { OnDone result (IfSome (S.left source.old) (λ bytes. (text : List ℕ) × IsTextAsked (map string_bytes words.now.items) bytes text × Told (D.told desk.old) text (D.told desk.new))) }
@@ -225,6 +227,11 @@ pub fn tierra<S: Source, D: Desk>(
     // A count that rose is the answer.
     ensures source_steady { UnlessReadFault result (S.faults source.new ≡ 0) }
     ensures desk_steady { UnlessTellFault result (D.tell_faults desk.new ≡ 0) }
+
+    // The disk is not touched.
+    ensures disk_steady { D.disk_faults desk.new ≡ 0 }
+    ensures disk_reads { D.reads desk.new ≡ D.reads desk.old }
+    ensures disk_crash { Same (D.may_leave desk.old) (D.may_leave desk.new) }
 {
     match text_asked(alloc, words, source) {
         Ok(text) => match desk.tell(&text.items) {
