@@ -290,7 +290,7 @@ impl Bank {
         requires durable { Only (D.reads desk.old) (D.may_leave desk.old) }
         ensures digest { IfOk result (λ bank. bank.digest ≡ self.digest) }
         ensures groups { IfOk result (λ bank. bank.groups ≡ self.groups ++ group ∷ []) }
-        ensures at_rest { OnOk result (IfSome (D.reads desk.new) (IsAtRest self.digest (self.groups ++ group ∷ []))) }
+        ensures at_rest { IfOk result (λ bank. IfSome (D.reads desk.new) (IsAtRest bank.digest bank.groups)) }
         ensures durable { OnOk result (Only (D.reads desk.new) (D.may_leave desk.new)) }
 
         // A crash at any moment leaves the groups from before, with the new one or without.

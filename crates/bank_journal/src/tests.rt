@@ -1,6 +1,9 @@
 //! Banks over desks in memory.
 
-ghost use Rattle.std.specs.Prelude.{◌≡◌};
+ghost use Rattle.std.specs.Prelude.{◌≡◌, IfOk, IfSome};
+ghost use Rattle.desk_io.specs.Desk.{Only};
+ghost use Rattle.desk_io.specs.MemDesk.{file_of, images_of};
+ghost use Rattle.bank_journal.specs.Journal.{IsAtRest};
 
 use super::*;
 use bank_format::decode_group;
@@ -56,7 +59,7 @@ fn bank_with(alloc: Global, groups: usize, len: usize) -> Result<Vec<u8>, Fail> 
         bytes.extend_from_slice(&group_bytes(alloc)?)?;
     }
     bytes.push(0)?;
-    while bytes.len() < len {
+    for _ in bytes.len()..len {
         bytes.push(9)?;
     }
     Ok(bytes)
@@ -155,23 +158,43 @@ fn a_refused_file_is_not_written(rt: HostRuntime) -> Result<(), Fail> {
     Ok(())
 }
 
+// Appends a group: the bank with it, or none where the desk stopped.
+fn append_one(alloc: Global, desk: &mut MemDesk, mut bank: Bank) -> Result<Option<Bank>, Fail>
+    requires disk { desk.old.disk_faults ≡ 0 }
+    requires tells { desk.old.tell_faults ≡ 0 }
+    requires at_rest { IsAtRest bank.digest bank.groups (file_of desk.old) }
+    requires durable { Only (Some (file_of desk.old)) (images_of desk.old) }
+    ensures disk { IfOk result (λ o. IfSome o (λ _. desk.new.disk_faults ≡ 0)) }
+    ensures tells { IfOk result (λ o. IfSome o (λ _. desk.new.tell_faults ≡ 0)) }
+    ensures at_rest { IfOk result (λ o. IfSome o (λ b. IsAtRest b.digest b.groups (file_of desk.new))) }
+    ensures durable { IfOk result (λ o. IfSome o (λ _. Only (Some (file_of desk.new)) (images_of desk.new))) }
+{
+    let group = group_of(alloc)?;
+    bank.make_room(&group)?;
+    match bank.append(desk, group) {
+        Ok(bank) => Ok(Some(bank)),
+        Err(_) => Ok(None),
+    }
+}
+
 // Attaches a bank and appends three groups to it, as far as the desk goes: how many of them it says were appended.
 fn append_three(alloc: Global, desk: &mut MemDesk) -> Result<usize, Fail>
     requires disk { desk.old.disk_faults ≡ 0 }
     requires tells { desk.old.tell_faults ≡ 0 }
 {
-    let Ok(mut bank) = Bank::attach(alloc, desk, &SETUP) else {
+    let Ok(bank) = Bank::attach(alloc, desk, &SETUP) else {
         return Ok(0);
     };
-    for appended in 0..3usize {
-        let group = group_of(alloc)?;
-        bank.make_room(&group)?;
-        bank = match bank.append(desk, group) {
-            Ok(bank) => bank,
-            Err(_) => return Ok(appended),
-        };
+    let Some(bank) = append_one(alloc, desk, bank)? else {
+        return Ok(0);
+    };
+    let Some(bank) = append_one(alloc, desk, bank)? else {
+        return Ok(1);
+    };
+    match append_one(alloc, desk, bank)? {
+        Some(_) => Ok(3),
+        None => Ok(2),
     }
-    Ok(3)
 }
 
 #[test]
