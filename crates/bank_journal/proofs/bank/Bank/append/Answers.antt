@@ -1,4 +1,4 @@
-use Rattle.std.proofs.Common.{[], ◌∷◌, ◌++◌, sym, subst, List, ℕ}
+use Rattle.std.proofs.Common.{sym, subst, List, ℕ}
 use Rattle.std.specs.Prelude.{IfSome}
 use Rattle.tierra_model.specs.Groups.{GroupFields}
 use Rattle.bank_journal.specs.Journal.{IsAtRest}
