@@ -4,4 +4,4 @@ mod Tables
 mod Apart
 mod InOrder
 mod WholeFile
-mod OneSetup
+pub mod OneSetup
