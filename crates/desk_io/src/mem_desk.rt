@@ -1,41 +1,178 @@
-//! A desk in memory, whose calls fail by a list.
-ghost use Rattle.std.specs.Prelude.{◌≡◌, ◌⊎◌, ◌+◌, ◌<◌, ◌≤◌, ◌↔◌, ◌++◌, [], Contains, IsErr, OnOk, OnErr, min};
+//! A desk in memory, which keeps a record of its calls and can be crashed at any moment.
+ghost use Rattle.std.specs.Prelude.{◌≡◌, ◌⊎◌, ◌+◌, ◌<◌, ◌≤◌, ◌↔◌, ◌^◌, ◌++◌, [], true, false, if◌then◌else◌, List, ℕ, None, Some, length, take, drop, unwrap_or, is_err, IsErr, IsTrue, IfOk, OnOk, OnErr};
+ghost use Rattle.desk_io.specs.Desk.{spliced, Torn, Follows, NoMore, Same, Only, HasCause};
+ghost use Rattle.desk_io.specs.Calls.{written_with, file_with, picked_piece, crash_image};
+ghost use Rattle.desk_io.specs.Kept.{changes_nothing, IsInside, Fits, IsSound};
+ghost use Rattle.desk_io.specs.MemDesk.{now, file_of, images_of, told_of, Passes, PassesTelling, IsDiskCallDue, IsTellDue, noted, disk_counted, disk_starved, NotesDiskCall, tell_counted, tell_starved, NotesTell};
 
-use crate::desk::{Desk, TellFailed};
-use crate::listed::is_next_listed;
-use std::alloc::Global;
+use crate::call::{Bytes, Call, CallRecord};
+use crate::desk::{Desk, DiskFailed, TellFailed};
+use crate::listed::is_next_due;
+use std::alloc::{AllocError, Global};
 use std::marker::Model;
+
+/// The greatest length of a file.
+const MAX_LEN: u64 = 1 << 62;
+
+/// No memory was left.
+#[derive(Clone, Copy, Debug, PartialEq, Eq)]
+pub struct OutOfMemory;
+
+impl From<AllocError> for OutOfMemory {
+    ghost from_gives = { λ _ e. Unit {0} };
+
+    fn from(_: AllocError) -> Self {
+        OutOfMemory
+    }
+}
 
 /// A desk that keeps what it is told, and fails at the calls that it is told to.
 #[derive(Drop)]
 pub struct MemDesk {
+    alloc: Global,
+    // The file at the start.
+    image: Vec<u8>,
+    calls: Vec<CallRecord>,
+    // How many of the calls are tells, and how many came before the file was last made durable.
+    tells: usize,
+    synced: usize,
+    // The durable file, unless it is still the image; and what a read gives, unless it is the durable file.
+    durable: Option<Bytes>,
+    file: Option<Bytes>,
     told: Vec<u8>,
-    tells: u64,
+    disk_fails: Vec<u64>,
     tell_fails: Vec<u64>,
+    stop: Option<u64>,
+    disk_faults: u64,
     tell_faults: u64,
     starved: u64,
 }
 
 impl Model for MemDesk {
-    ghost use Rattle.std.specs.Prelude.{ℕ, ◌≤◌};
-    ghost use Rattle.desk_io.specs.MemDesk.{MemDeskState};
+    ghost use Rattle.std.specs.Prelude.{◌+◌, ◌≤◌, unwrap_or};
+    ghost use Rattle.desk_io.specs.Kept.{IsKept};
+    ghost use Rattle.desk_io.specs.MemDesk.{MemDeskState, after_calls};
 
     ghost Value = { MemDeskState };
 
-    ghost view = { λ d. record { told = d.told.items; tells = d.tells; tell_fails = d.tell_fails.items; tell_faults = d.tell_faults; starved = d.starved } };
+    ghost view = { λ d. record {
+      image = d.image.items;
+      calls = d.calls.items;
+      disk_fails = d.disk_fails.items;
+      tell_fails = d.tell_fails.items;
+      stop = d.stop;
+      disk_faults = d.disk_faults;
+      tell_faults = d.tell_faults;
+      starved = d.starved;
+    } };
 
-    ghost invariant = { λ d. d.starved ≤ d.tell_faults };
+    ghost invariant = { λ d.
+        let durable = unwrap_or d.durable d.image.items in
+        let moment = after_calls d.image.items d.calls.items in
+        IsKept d.calls.items moment durable (unwrap_or d.file durable) d.told.items d.synced d.tells
+        × (d.starved ≤ d.disk_faults + d.tell_faults) };
+}
+
+// The file with a piece at a place.
+fn splice(alloc: Global, file: &[u8], at: usize, piece: &[u8]) -> Result<Vec<u8>, AllocError>
+    requires { at ≤ length file.now }
+    ensures { IfOk result (λ v. v.items ≡ spliced file.now at piece.now) }
+{
+    let mut next = file[..at].to_vec(alloc)?;
+    next.extend_from_slice(piece)?;
+    if piece.len() < file.len() - at {
+        next.extend_from_slice(&file[at + piece.len()..])?;
+    }
+    Ok(next)
+}
+
+// The piece as a crash is to leave it.
+fn filled(alloc: Global, piece: &[u8], pick: u32) -> Result<Vec<u8>, AllocError>
+    ensures { IfOk result (λ v. v.items ≡ picked_piece pick piece.now) }
+{
+    match pick {
+        2 => vec![in alloc; 0xff; piece.len()],
+        3 => vec![in alloc; 0x01; piece.len()],
+        _ => piece.to_vec(alloc),
+    }
+}
+
+// The image after a call, as a crash is to leave it.
+fn picked(alloc: Global, image: Vec<u8>, pick: u32, call: &Call) -> Result<Vec<u8>, AllocError>
+    requires { IsInside (length image.items) call.now }
+    ensures { IfOk result (λ v. v.items ≡ written_with (picked_piece pick) image.items call.now) }
+{
+    match call {
+        Call::Write { at, piece } => {
+            let piece = filled(alloc, &piece.items, pick)?;
+            splice(alloc, &image, *at as usize, &piece)
+        }
+        _ => Ok(image),
+    }
+}
+
+// The image after some calls, as a crash is to leave it.
+fn crashed(
+    alloc: Global,
+    durable: &[u8],
+    since: &[CallRecord],
+    pick: u32,
+) -> Result<Vec<u8>, AllocError>
+    requires { Fits (length durable.now) since.now }
+    ensures { IfOk result (λ v. v.items ≡ file_with (picked_piece pick) durable.now since.now) }
+{
+    let mut image = durable.to_vec(alloc)?;
+    for record in since {
+        image = picked(alloc, image, pick, &record.call)?;
+    }
+    Ok(image)
+}
+
+// Puts what is there in the place of something older.
+fn move_over(newer: &mut Option<Bytes>, older: &mut Option<Bytes>)
+    ensures moved { (first : List ℕ)
+        → unwrap_or older.new first ≡ unwrap_or newer.old (unwrap_or older.old first) }
+    ensures gone { newer.new ≡ None }
+{
+    if let Some(bytes) = newer.take() {
+        *older = Some(bytes);
+    }
 }
 
 impl MemDesk {
-    /// A desk that has told nothing. The tells whose numbers are in `tell_fails` fail; the first tell is number 1.
-    pub fn new(alloc: Global, tell_fails: Vec<u64>) -> MemDesk
-        ensures { result ≡ record { told = []; tells = 0; tell_fails = tell_fails.items; tell_faults = 0; starved = 0 } }
+    /// A desk over a durable file. The disk calls and the tells whose numbers are listed fail, where each kind
+    /// is counted from 1; so do the call whose number among all is `stop` and those after it.
+    pub fn new(
+        alloc: Global,
+        image: Vec<u8>,
+        disk_fails: Vec<u64>,
+        tell_fails: Vec<u64>,
+        stop: Option<u64>,
+    ) -> MemDesk
+        ensures { result ≡ record {
+          image = image.items;
+          calls = [];
+          disk_fails = disk_fails.items;
+          tell_fails = tell_fails.items;
+          stop = stop;
+          disk_faults = 0;
+          tell_faults = 0;
+          starved = 0;
+        } }
     {
         MemDesk {
-            told: Vec::new(alloc),
+            alloc,
+            image,
+            calls: Vec::new(alloc),
             tells: 0,
+            synced: 0,
+            durable: None,
+            file: None,
+            told: Vec::new(alloc),
+            disk_fails,
             tell_fails,
+            stop,
+            disk_faults: 0,
             tell_faults: 0,
             starved: 0,
         }
@@ -43,7 +180,7 @@ impl MemDesk {
 
     /// The text told so far.
     pub fn told(&self) -> &Vec<u8>
-        ensures { result.now.items ≡ self.now.told }
+        ensures { result.now.items ≡ told_of self.now }
     {
         &self.told
     }
@@ -54,44 +191,382 @@ impl MemDesk {
     {
         self.starved
     }
+
+    /// The calls so far, the first one first. A call that found no memory is not among them.
+    pub fn calls(&self) -> &Vec<CallRecord>
+        ensures { result.now.items ≡ self.now.calls }
+    {
+        &self.calls
+    }
+
+    /// An image that a crash now may leave. Pick 0 is without the writes since the last sync that succeeded,
+    /// 1 with them, 2 with their ranges full of the byte 0xff, 3 with their ranges full of the byte 0x01.
+    pub fn crash(&self, pick: u32) -> Result<Vec<u8>, OutOfMemory>
+        requires { pick < 4 }
+        ensures image { IfOk result (λ v. v.items ≡ crash_image pick (now self.now)) }
+        ensures leaves { IfOk result (λ v. images_of self.now v.items) }
+    {
+        Ok(self.image_left(pick)?)
+    }
+
+    fn image_left(&self, pick: u32) -> Result<Vec<u8>, AllocError>
+        ensures image { IfOk result (λ v. v.items ≡ crash_image pick (now self.now)) }
+        ensures sound { IsSound (now self.now) }
+    {
+        let durable = self.durable();
+        if pick == 0 {
+            return durable.to_vec(self.alloc);
+        }
+        crashed(self.alloc, durable, &self.calls[self.synced..], pick)
+    }
+
+    // The file as it was last made durable.
+    fn durable(&self) -> &Vec<u8>
+        ensures { result.now.items ≡ (now self.now).durable }
+    {
+        match &self.durable {
+            Some(bytes) => &bytes.items,
+            None => &self.image,
+        }
+    }
+
+    // What a read gives.
+    fn file(&self) -> &Vec<u8>
+        ensures { result.now.items ≡ file_of self.now }
+    {
+        match &self.file {
+            Some(bytes) => &bytes.items,
+            None => self.durable(),
+        }
+    }
+
+    fn is_disk_call_due(&self) -> bool
+        ensures { IsTrue result ↔ IsDiskCallDue self.now }
+    {
+        let calls = self.calls.len();
+        is_next_due(&self.disk_fails, calls - self.tells, self.stop, calls)
+    }
+
+    fn is_tell_due(&self) -> bool
+        ensures { IsTrue result ↔ IsTellDue self.now }
+    {
+        is_next_due(&self.tell_fails, self.tells, self.stop, self.calls.len())
+    }
+
+    // Notes a call that changes nothing.
+    fn note(&mut self, call: Call, failed: bool) -> Result<(), AllocError>
+        requires { changes_nothing call failed ≡ true }
+        ensures ok { OnOk result (self.new ≡ noted self.old call failed) }
+        ensures err { OnErr result (self.new ≡ self.old) }
+        ensures sound { IsSound (now self.old) }
+    {
+        let tell = call.is_tell();
+        self.calls.push(CallRecord { call, failed })?;
+        if tell {
+            self.tells += 1;
+        }
+        Ok(())
+    }
+
+    // Notes a write, which a read gives from now on, also where it fails.
+    fn note_write(&mut self, at: u64, piece: &[u8], failed: bool) -> Result<(), AllocError>
+        requires { at ≤ length (file_of self.old) }
+        ensures ok { OnOk result (self.new ≡ noted self.old (Call.Write at piece.now) failed) }
+        ensures err { OnErr result (self.new ≡ self.old) }
+        ensures sound { IsSound (now self.old) }
+    {
+        let next = splice(self.alloc, self.file(), at as usize, piece)?;
+        let items = piece.to_vec(self.alloc)?;
+        let call = Call::Write {
+            at,
+            piece: Bytes { items },
+        };
+        self.calls.push(CallRecord { call, failed })?;
+        self.file = Some(Bytes { items: next });
+        Ok(())
+    }
+
+    // Notes a sync. Where it succeeds, what a read gives is durable.
+    fn note_sync(&mut self, failed: bool) -> Result<(), AllocError>
+        ensures ok { OnOk result (self.new ≡ noted self.old Call.Sync failed) }
+        ensures err { OnErr result (self.new ≡ self.old) }
+        ensures sound { IsSound (now self.old) }
+    {
+        if failed {
+            return self.note(Call::Sync, true);
+        }
+        let call = Call::Sync;
+        self.calls.push(CallRecord {
+            call,
+            failed: false,
+        })?;
+        self.synced = self.calls.len();
+        move_over(&mut self.file, &mut self.durable);
+        Ok(())
+    }
+
+    // Notes a tell. Where it succeeds, its piece is told.
+    fn note_tell(&mut self, piece: &[u8], failed: bool) -> Result<(), AllocError>
+        ensures ok { OnOk result (self.new ≡ noted self.old (Call.Tell piece.now) failed) }
+        ensures err { OnErr result (self.new ≡ self.old) }
+    {
+        let items = piece.to_vec(self.alloc)?;
+        let call = Call::Tell {
+            piece: Bytes { items },
+        };
+        if failed {
+            return self.note(call, true);
+        }
+        self.calls.reserve(1)?;
+        self.told.extend_from_slice(piece)?;
+        self.calls.push_reserved(CallRecord {
+            call,
+            failed: false,
+        });
+        self.tells += 1;
+        Ok(())
+    }
+
+    // Answers a disk call. One that fails, or found no memory for its record, is counted.
+    fn settle_disk(&mut self, noted: Result<(), AllocError>, failed: bool) -> Result<(), DiskFailed>
+        requires disk_sound { self.old.disk_faults ≡ 0 }
+        requires tell_sound { self.old.tell_faults ≡ 0 }
+        ensures noted { OnOk noted (self.new ≡ disk_counted self.old failed) }
+        ensures starved { OnErr noted (self.new ≡ disk_starved self.old) }
+        ensures answer { IsErr result ↔ (IsErr noted ⊎ IsTrue failed) }
+    {
+        if noted.is_err() {
+            self.starved += 1;
+            self.disk_faults += 1;
+            return Err(DiskFailed);
+        }
+        if failed {
+            self.disk_faults += 1;
+            return Err(DiskFailed);
+        }
+        Ok(())
+    }
+
+    // Answers a tell, likewise.
+    fn settle_tell(&mut self, told: Result<(), AllocError>, failed: bool) -> Result<(), TellFailed>
+        requires disk_sound { self.old.disk_faults ≡ 0 }
+        requires tell_sound { self.old.tell_faults ≡ 0 }
+        ensures noted { OnOk told (self.new ≡ tell_counted self.old failed) }
+        ensures starved { OnErr told (self.new ≡ tell_starved self.old) }
+        ensures answer { IsErr result ↔ (IsErr told ⊎ IsTrue failed) }
+    {
+        if told.is_err() {
+            self.starved += 1;
+            self.tell_faults += 1;
+            return Err(TellFailed);
+        }
+        if failed {
+            self.tell_faults += 1;
+            return Err(TellFailed);
+        }
+        Ok(())
+    }
+
+    // Makes a disk call that changes nothing.
+    fn call_plainly(&mut self, call: Call, failed: bool) -> Result<(), DiskFailed>
+        requires disk_sound { self.old.disk_faults ≡ 0 }
+        requires tell_sound { self.old.tell_faults ≡ 0 }
+        requires plain { changes_nothing call failed ≡ true }
+        ensures noted { NotesDiskCall self.old call (is_err result) self.new }
+        ensures answer { IsErr result ↔ (IsTrue failed ⊎ (self.old.starved < self.new.starved)) }
+        ensures reads { file_of self.new ≡ file_of self.old }
+        ensures told { told_of self.new ≡ told_of self.old }
+        ensures crash { Same (images_of self.old) (images_of self.new) }
+        ensures time { Passes self.old self.new }
+    {
+        let noted = self.note(call, failed);
+        self.settle_disk(noted, failed)
+    }
+
+    fn call_write(&mut self, at: u64, piece: &[u8], failed: bool) -> Result<(), DiskFailed>
+        requires disk_sound { self.old.disk_faults ≡ 0 }
+        requires tell_sound { self.old.tell_faults ≡ 0 }
+        requires inside { at ≤ length (file_of self.old) }
+        ensures noted { NotesDiskCall self.old (Call.Write at piece.now) (is_err result) self.new }
+        ensures answer { IsErr result ↔ (IsTrue failed ⊎ (self.old.starved < self.new.starved)) }
+        ensures crash { Follows (Torn at (length piece.now)) (images_of self.old) (images_of self.new) }
+        ensures time { Passes self.old self.new }
+    {
+        let noted = self.note_write(at, piece, failed);
+        self.settle_disk(noted, failed)
+    }
+
+    fn call_sync(&mut self, failed: bool) -> Result<(), DiskFailed>
+        requires disk_sound { self.old.disk_faults ≡ 0 }
+        requires tell_sound { self.old.tell_faults ≡ 0 }
+        ensures noted { NotesDiskCall self.old Call.Sync (is_err result) self.new }
+        ensures answer { IsErr result ↔ (IsTrue failed ⊎ (self.old.starved < self.new.starved)) }
+        ensures crash { NoMore (images_of self.old) (images_of self.new) }
+        ensures time { Passes self.old self.new }
+    {
+        let noted = self.note_sync(failed);
+        self.settle_disk(noted, failed)
+    }
+
+    fn call_tell(&mut self, piece: &[u8], failed: bool) -> Result<(), TellFailed>
+        requires disk_sound { self.old.disk_faults ≡ 0 }
+        requires tell_sound { self.old.tell_faults ≡ 0 }
+        ensures noted { NotesTell self.old (Call.Tell piece.now) (is_err result) self.new }
+        ensures answer { IsErr result ↔ (IsTrue failed ⊎ (self.old.starved < self.new.starved)) }
+        ensures crash { Same (images_of self.old) (images_of self.new) }
+        ensures time { PassesTelling self.old piece.now self.new }
+    {
+        let told = self.note_tell(piece, failed);
+        self.settle_tell(told, failed)
+    }
 }
 
 impl Desk for MemDesk {
     ghost use Rattle.std.specs.Prelude.{Some};
+    ghost use Rattle.desk_io.specs.MemDesk.{file_of, images_of, told_of, moment_of, moments_of};
+    ghost use Rattle.desk_io.specs.MemDeskLaws as laws;
 
-    ghost told = { λ d. Some d.told };
+    ghost reads = { λ d. Some (file_of d) };
+
+    ghost may_leave = { images_of };
+
+    ghost told = { λ d. Some (told_of d) };
+
+    ghost moment = { moment_of };
+
+    ghost moments = { moments_of };
+
+    ghost disk_faults = { λ d. d.disk_faults };
 
     ghost tell_faults = { λ d. d.tell_faults };
 
-    /// Fails exactly where it is listed or finds no memory, and then appends nothing.
-    fn tell(&mut self, piece: &[u8]) -> Result<(), TellFailed>
-        requires { self.old.tell_faults ≡ 0 }
+    fn len(&mut self) -> Result<u64, DiskFailed>
+        requires disk_sound { self.old.disk_faults ≡ 0 }
+        requires tell_sound { self.old.tell_faults ≡ 0 }
 
         // As every desk does.
-        ensures appended { OnOk result (self.new.told ≡ self.old.told ++ piece.now) }
-        ensures partly { OnErr result (self.new.told ≡ self.old.told) }
-        ensures cause { OnErr result (self.new.tell_faults ≡ self.old.tell_faults + 1) }
-        ensures steady { OnOk result (self.new.tell_faults ≡ self.old.tell_faults) }
+        ensures most { IfOk result (λ n. n ≤ 2 ^ 62) }
+        ensures value { IfOk result (λ n. n ≡ length (file_of self.old)) }
+        ensures reads { file_of self.new ≡ file_of self.old }
+        ensures crash { Same (images_of self.old) (images_of self.new) }
+        ensures time { Passes self.old self.new }
+        ensures told { told_of self.new ≡ told_of self.old }
+        ensures cause { HasCause self.old.disk_faults self.new.disk_faults result }
+        ensures tell_faults { self.new.tell_faults ≡ self.old.tell_faults }
 
         // And beyond that.
-        ensures failed { IsErr result ↔ (Contains self.old.tell_fails (self.old.tells + 1) ⊎ (self.old.starved < self.new.starved)) }
-        ensures listed { Contains self.old.tell_fails (self.old.tells + 1) → self.new.starved ≡ self.old.starved }
-        ensures never_less { self.old.starved ≤ self.new.starved }
-        ensures once { self.new.starved ≤ self.old.starved + 1 }
-        ensures counted { self.new.tells ≡ min (self.old.tells + 1) u64.MAX }
-        ensures settings { self.new.tell_fails ≡ self.old.tell_fails }
+        ensures failed { IsErr result
+            ↔ ((IsDiskCallDue self.old ⊎ (2 ^ 62 < length (file_of self.old))) ⊎ (self.old.starved < self.new.starved)) }
+        ensures noted { NotesDiskCall self.old Call.Len (is_err result) self.new }
     {
-        let listed = is_next_listed(&self.tell_fails, self.tells);
-        self.tells = self.tells.saturating_add(1);
-        if listed {
-            self.tell_faults += 1;
-            return Err(TellFailed);
-        }
-        let Ok(()) = self.told.extend_from_slice(piece) else {
-            self.tell_faults += 1;
-            self.starved += 1;
-            return Err(TellFailed);
-        };
+        let len = self.file().len() as u64;
+        let failed = self.is_disk_call_due() || len > MAX_LEN;
+        self.call_plainly(Call::Len, failed).map(|()| len)
+    }
+
+    fn read_at(&mut self, at: u64, buf: &mut [u8]) -> Result<(), DiskFailed>
+        requires disk_sound { self.old.disk_faults ≡ 0 }
+        requires tell_sound { self.old.tell_faults ≡ 0 }
+        requires inside { at + length buf.old ≤ length (file_of self.old) }
+
+        // As every desk does.
+        ensures bytes { OnOk result (buf.new ≡ take (length buf.old) (drop at (file_of self.old))) }
+        ensures reads { file_of self.new ≡ file_of self.old }
+        ensures crash { Same (images_of self.old) (images_of self.new) }
+        ensures time { Passes self.old self.new }
+        ensures told { told_of self.new ≡ told_of self.old }
+        ensures cause { HasCause self.old.disk_faults self.new.disk_faults result }
+        ensures tell_faults { self.new.tell_faults ≡ self.old.tell_faults }
+
+        // And beyond that.
+        ensures failed { IsErr result ↔ (IsDiskCallDue self.old ⊎ (self.old.starved < self.new.starved)) }
+        ensures noted { NotesDiskCall self.old (Call.Read at (length buf.old)) (is_err result) self.new }
+        ensures unread { OnErr result (buf.new ≡ buf.old) }
+    {
+        let len = buf.len();
+        let failed = self.is_disk_call_due();
+        self.call_plainly(Call::Read { at, len }, failed)?;
+        let start = at as usize;
+        buf.copy_from_slice(&self.file()[start..start + len]);
         Ok(())
     }
+
+    fn write_at(&mut self, at: u64, piece: &[u8]) -> Result<(), DiskFailed>
+        requires disk_sound { self.old.disk_faults ≡ 0 }
+        requires tell_sound { self.old.tell_faults ≡ 0 }
+        requires inside { at ≤ length (file_of self.old) }
+        requires some { 0 < length piece.now }
+
+        // As every desk does.
+        ensures written { OnOk result (file_of self.new ≡ spliced (file_of self.old) at piece.now) }
+        ensures most { OnOk result (at + length piece.now ≤ 2 ^ 62) }
+        ensures crash { Follows (Torn at (length piece.now)) (images_of self.old) (images_of self.new) }
+        ensures time { Passes self.old self.new }
+        ensures told { told_of self.new ≡ told_of self.old }
+        ensures cause { HasCause self.old.disk_faults self.new.disk_faults result }
+        ensures tell_faults { self.new.tell_faults ≡ self.old.tell_faults }
+
+        // And beyond that.
+        ensures failed { IsErr result
+            ↔ ((IsDiskCallDue self.old ⊎ (2 ^ 62 < at + length piece.now)) ⊎ (self.old.starved < self.new.starved)) }
+        ensures noted { at + length piece.now ≤ 2 ^ 62
+            → NotesDiskCall self.old (Call.Write at piece.now) (is_err result) self.new }
+        ensures too_long { 2 ^ 62 < at + length piece.now
+            → NotesDiskCall self.old (Call.TooLong at (length piece.now)) (is_err result) self.new }
+    {
+        let len = piece.len();
+        if at > MAX_LEN || len as u64 > MAX_LEN - at {
+            return self.call_plainly(Call::TooLong { at, len }, true);
+        }
+        let failed = self.is_disk_call_due();
+        self.call_write(at, piece, failed)
+    }
+
+    fn sync(&mut self) -> Result<(), DiskFailed>
+        requires disk_sound { self.old.disk_faults ≡ 0 }
+        requires tell_sound { self.old.tell_faults ≡ 0 }
+
+        // As every desk does.
+        ensures durable { OnOk result (Only (Some (file_of self.old)) (images_of self.new)) }
+        ensures reads { file_of self.new ≡ file_of self.old }
+        ensures crash { NoMore (images_of self.old) (images_of self.new) }
+        ensures time { Passes self.old self.new }
+        ensures told { told_of self.new ≡ told_of self.old }
+        ensures cause { HasCause self.old.disk_faults self.new.disk_faults result }
+        ensures tell_faults { self.new.tell_faults ≡ self.old.tell_faults }
+
+        // And beyond that.
+        ensures failed { IsErr result ↔ (IsDiskCallDue self.old ⊎ (self.old.starved < self.new.starved)) }
+        ensures noted { NotesDiskCall self.old Call.Sync (is_err result) self.new }
+    {
+        let failed = self.is_disk_call_due();
+        self.call_sync(failed)
+    }
+
+    fn tell(&mut self, piece: &[u8]) -> Result<(), TellFailed>
+        requires disk_sound { self.old.disk_faults ≡ 0 }
+        requires tell_sound { self.old.tell_faults ≡ 0 }
+
+        // As every desk does; one that fails has appended nothing.
+        ensures appended { OnOk result (told_of self.new ≡ told_of self.old ++ piece.now) }
+        ensures partly { OnErr result (told_of self.new ≡ told_of self.old) }
+        ensures reads { file_of self.new ≡ file_of self.old }
+        ensures crash { Same (images_of self.old) (images_of self.new) }
+        ensures time { PassesTelling self.old piece.now self.new }
+        ensures cause { HasCause self.old.tell_faults self.new.tell_faults result }
+        ensures disk_faults { self.new.disk_faults ≡ self.old.disk_faults }
+
+        // And beyond that.
+        ensures failed { IsErr result ↔ (IsTellDue self.old ⊎ (self.old.starved < self.new.starved)) }
+        ensures noted { NotesTell self.old (Call.Tell piece.now) (is_err result) self.new }
+    {
+        let failed = self.is_tell_due();
+        self.call_tell(piece, failed)
+    }
+
+    ghost counts_now = { laws.counts_now };
+
+    ghost only_now = { laws.only_now };
+
+    ghost leaves_bytes = { λ d image leaves. leaves.0 };
 }

@@ -1,12 +1,12 @@
 -- What the causes of an answer exclude, and what a tell in part leaves.
-use Rattle.std.proofs.Common.{◌≡◌, ◌∙◌, sym, ap, ℕ, ◌<◌, List, Option, Some, None, Result, Ok, Err, IfErr, refl, arith, inl, inr, subst}
+use Rattle.std.proofs.Common.{◌≡◌, sym, ℕ, ◌<◌, List, Option, Some, None, Result, Ok, Err, IfOk, IfErr, refl, arith, inl, inr, subst}
 use Rattle.std.specs.Prelude.{◌⊎◌, IfSome}
 use Rattle.desk_io.specs.Desk.{AppendedSome}
 use Rattle.soup_top.specs.declared.status.Status.{Status}
 use Rattle.soup_top.specs.declared.status.Status.TheVariants as status
 use Rattle.soup_top.specs.declared.words.Order.{Order}
 use Rattle.soup_top.specs.Words.{AsksFor}
-use Rattle.soup_top.specs.Sources.{Refused}
+use Rattle.soup_top.specs.Sources.{IsTextOf, Refused}
 use Rattle.soup_top.specs.Answers.{Cause, IsTextAsked, IsToldInPart, OnDone, RefusesSource}
 use Rattle.soup_top.proofs.Accepted.{not-refused}
 
@@ -51,3 +51,10 @@ pub told-in-part : (words : List (List ℕ)) (left before now : Option (List ℕ
 told-in-part words None before now text r h = tt
 told-in-part words (Some bytes) None now text r h = inr (text, 0, r, tt)
 told-in-part words (Some bytes) (Some told) now text r h = inr (text, h.0, r, h.1)
+
+-- the text of the bytes that were read is the one asked for
+pub texts-are-asked : {E : Type 0} (r : Result (List ℕ) E) (words : List (List ℕ)) (left : Option (List ℕ)) (bytes : List ℕ) (o : Order)
+    → IfSome left (λ xs. bytes ≡ xs) → AsksFor words o → IfOk r (IsTextOf o bytes) → IfOk r (λ text. IfSome left (λ xs. IsTextAsked words xs text))
+texts-are-asked (Ok text) words None bytes o read asks h = tt
+texts-are-asked (Ok text) words (Some xs) bytes o read asks h = (o, asks, subst (λ ys. IsTextOf o ys text) read h)
+texts-are-asked (Err e) words left bytes o read asks h = tt

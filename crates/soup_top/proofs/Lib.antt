@@ -1,9 +1,5 @@
 mod Pieces
 mod WordLists
 mod Asking
-mod Alone
-mod OneStep
-mod LoneSoup
-mod Built
 mod Accepted
 mod Causes

@@ -42,7 +42,7 @@ IsOfBytes fault.NotText = Unit {0}
 IsOfBytes (fault.Listing f) = Unit {0}
 IsOfBytes (fault.Hex f) = Unit {0}
 IsOfBytes (fault.Dis f) = Unit {0}
-IsOfBytes (fault.NotBuilt place) = Unit {0}
+IsOfBytes (fault.File f) = Unit {0}
 
 -- a status with which the bytes are refused, or want of memory
 abbrev pub RefusesSource : Order → List ℕ → Status → Type 0
@@ -57,7 +57,7 @@ OnReadWhole (status.SourceRefused fault.NotText) P = P
 OnReadWhole (status.SourceRefused (fault.Listing f)) P = P
 OnReadWhole (status.SourceRefused (fault.Hex f)) P = P
 OnReadWhole (status.SourceRefused (fault.Dis f)) P = P
-OnReadWhole (status.SourceRefused (fault.NotBuilt place)) P = P
+OnReadWhole (status.SourceRefused (fault.File f)) P = P
 OnReadWhole status.ReadFault P = Unit {0}
 OnReadWhole status.TellFault P = Unit {0}
 OnReadWhole status.OutOfMemory P = Unit {0}

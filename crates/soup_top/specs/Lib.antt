@@ -1,6 +1,5 @@
 pub mod Reading
 pub mod Words
-pub mod Lone
 pub mod Statuses
 pub mod Sources
 pub mod Answers

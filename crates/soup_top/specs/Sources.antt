@@ -1,8 +1,9 @@
 -- When the bytes of a source are accepted, what is then told, and when they are refused.
-use Rattle.std.specs.Prelude.{ℕ, ◌+◌, ◌<◌, ◌≤◌, ◌≡◌, not, List, length, Option, Some, None, Ok, Err, IsUtf8, position, option_map}
-use Rattle.tierra_model.specs.Setups.{setup_for}
+use Rattle.std.specs.Prelude.{ℕ, ◌<◌, ◌≤◌, ◌≡◌, List, length, Ok, Err, IsUtf8}
+use Rattle.tierra_model.specs.Setups.{SetupFields, setup_for}
 use Rattle.tierra_model.specs.Serial.{serial}
-use Rattle.tierra_model.specs.Report.{report_head}
+use Rattle.report_text.specs.Report.{report}
+use Rattle.soup_file.specs.SoupFile.{IsFaultOf, IsSoupFile}
 use Rattle.tierra_asm.specs.Listing.{listing_of}
 use Rattle.tierra_dis.specs.Disassembly.{listing_text}
 use Rattle.tierra_dis.specs.HexText.{hex_of, hex_text}
@@ -10,7 +11,6 @@ use Rattle.soup_top.specs.declared.status.SourceFault.{SourceFault}
 use Rattle.soup_top.specs.declared.status.SourceFault.TheVariants as fault
 use Rattle.soup_top.specs.declared.words.Order.{Order}
 use Rattle.soup_top.specs.declared.words.Order.TheVariants as order
-use Rattle.soup_top.specs.Lone.{is_built}
 
 -- a text of allowed length
 abbrev pub IsText : List ℕ → Type 0
@@ -26,35 +26,51 @@ pub record IsHexText (bytes code : List ℕ) : Type 0 where
   pub text : IsText bytes
   pub reads : hex_of bytes ≡ Ok code
 
--- the place, counted from 1, of the first instruction that does not run yet
-abbrev pub first_unbuilt : List ℕ → Option ℕ
-first_unbuilt code = option_map (λ place. place + 1) (position (λ v. not (is_built v)) code)
+-- a soup file of the setup
+pub record IsSoupSource (bytes : List ℕ) (setup : SetupFields) : Type 0 where
+  pub short : length bytes ≤ 1048576
+  pub says : IsSoupFile bytes setup
 
--- what a run of the code for n quanta tells
-abbrev pub grow_text : List ℕ → ℕ → List ℕ
-grow_text code n = report_head (serial (setup_for code) n)
+-- what a run of the setup for n quanta tells
+abbrev pub run_text : SetupFields → ℕ → List ℕ
+run_text setup n = report (serial setup n)
 
 -- the bytes are accepted, and this is told
 abbrev pub IsTextOf : Order → List ℕ → List ℕ → Type 0
-IsTextOf (order.Grow n) bytes text =
-    (code : List ℕ) × IsListing bytes code × (first_unbuilt code ≡ None) × (text ≡ grow_text code n)
+IsTextOf (order.Grow n) bytes text = (code : List ℕ) × IsListing bytes code × (text ≡ run_text (setup_for code) n)
+IsTextOf (order.Run n) bytes text = (setup : SetupFields) × IsSoupSource bytes setup × (text ≡ run_text setup n)
 IsTextOf order.Asm bytes text = (code : List ℕ) × IsListing bytes code × (text ≡ hex_text code)
 IsTextOf order.Dis bytes text = (code : List ℕ) × IsHexText bytes code × (listing_text code ≡ Ok text)
 
--- why the bytes are refused, the first reason that holds
+-- why a listing is refused, the first reason that holds
+abbrev pub ListingRefused : List ℕ → SourceFault → Type 0
+ListingRefused bytes fault.TooLong = 1048576 < length bytes
+ListingRefused bytes fault.NotText = (length bytes ≤ 1048576) × (IsUtf8 bytes → ⊥)
+ListingRefused bytes (fault.Listing f) = IsText bytes × (listing_of bytes ≡ Err f)
+ListingRefused bytes (fault.Hex f) = ⊥
+ListingRefused bytes (fault.Dis f) = ⊥
+ListingRefused bytes (fault.File f) = ⊥
+
+-- why a hex text is refused
+abbrev pub HexRefused : List ℕ → SourceFault → Type 0
+HexRefused bytes fault.TooLong = 1048576 < length bytes
+HexRefused bytes fault.NotText = (length bytes ≤ 1048576) × (IsUtf8 bytes → ⊥)
+HexRefused bytes (fault.Listing f) = ⊥
+HexRefused bytes (fault.Hex f) = IsText bytes × (hex_of bytes ≡ Err f)
+HexRefused bytes (fault.Dis f) = (code : List ℕ) × IsHexText bytes code × (listing_text code ≡ Err f)
+HexRefused bytes (fault.File f) = ⊥
+
+-- why a soup file is refused; bytes that are not UTF-8 are no soup file
+abbrev pub FileRefused : List ℕ → SourceFault → Type 0
+FileRefused bytes fault.TooLong = 1048576 < length bytes
+FileRefused bytes fault.NotText = ⊥
+FileRefused bytes (fault.Listing f) = ⊥
+FileRefused bytes (fault.Hex f) = ⊥
+FileRefused bytes (fault.Dis f) = ⊥
+FileRefused bytes (fault.File f) = (length bytes ≤ 1048576) × IsFaultOf bytes f
+
 abbrev pub Refused : Order → List ℕ → SourceFault → Type 0
-Refused o bytes fault.TooLong = 1048576 < length bytes
-Refused o bytes fault.NotText = (length bytes ≤ 1048576) × (IsUtf8 bytes → ⊥)
-Refused (order.Grow n) bytes (fault.Listing f) = IsText bytes × (listing_of bytes ≡ Err f)
-Refused order.Asm bytes (fault.Listing f) = IsText bytes × (listing_of bytes ≡ Err f)
-Refused order.Dis bytes (fault.Listing f) = ⊥
-Refused (order.Grow n) bytes (fault.Hex f) = ⊥
-Refused order.Asm bytes (fault.Hex f) = ⊥
-Refused order.Dis bytes (fault.Hex f) = IsText bytes × (hex_of bytes ≡ Err f)
-Refused (order.Grow n) bytes (fault.Dis f) = ⊥
-Refused order.Asm bytes (fault.Dis f) = ⊥
-Refused order.Dis bytes (fault.Dis f) = (code : List ℕ) × IsHexText bytes code × (listing_text code ≡ Err f)
-Refused (order.Grow n) bytes (fault.NotBuilt place) =
-    (code : List ℕ) × IsListing bytes code × (first_unbuilt code ≡ Some place)
-Refused order.Asm bytes (fault.NotBuilt place) = ⊥
-Refused order.Dis bytes (fault.NotBuilt place) = ⊥
+Refused (order.Grow n) = ListingRefused
+Refused (order.Run n) = FileRefused
+Refused order.Asm = ListingRefused
+Refused order.Dis = HexRefused

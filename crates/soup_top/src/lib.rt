@@ -1,8 +1,6 @@
 //! The call that does all that the program does.
 #![tactic(auto)]
 
-mod head;
-mod lone;
 mod reading;
 mod status;
 #[cfg(test)]

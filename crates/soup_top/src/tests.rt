@@ -1,6 +1,9 @@
 //! Runs of the top call over sources and desks in memory.
 ghost use Rattle.std.specs.Prelude.{◌<◌};
 
+mod instructions;
+mod runs;
+
 use super::*;
 use desk_io::{MemDesk, MemSource};
 use std::alloc::Global;
@@ -12,9 +15,10 @@ use tierra_model::Text;
 const FIRST: &str = "zero or1 shl shl mov_cd";
 
 const FIRST_REPORT: &str =
-    "quanta 1\nbirths 0\ndeaths 0\nliving 1\nfilled 5\nfront 1 ip 25 ax 0 bx 0 cx 4 dx 4 flag 0 errors 0\n";
+    "quanta 1\nbirths 0\ndeaths 0\nliving 1\nfilled 5\nfront 1 ip 25 ax 0 bx 0 cx 4 dx 4 flag 0 errors 0\n\
+     genotypes 1\nkept 0\n0005aaa 1 1\n";
 
-const USAGE: &str = "tierra: usage: tierra grow|asm|dis [--quanta N] [--workers W]\n";
+const USAGE: &str = "tierra: usage: tierra grow|run|asm|dis [--quanta N] [--workers W]\n";
 
 const ANCESTOR: &str = "
 nop_1 nop_1 nop_1 nop_1 zero or1 shl shl mov_cd adrb nop_0 nop_0 nop_0 nop_0 sub_ac mov_ab
@@ -45,7 +49,14 @@ fn call(
         all.push(String::from_str(alloc, word)?)?;
     }
     let mut source = MemSource::new(bytes.to_vec(alloc)?, cut, read_fails.to_vec(alloc)?);
-    let mut desk = MemDesk::new(alloc, tell_fails.to_vec(alloc)?);
+    let image = Vec::new(alloc);
+    let mut desk = MemDesk::new(
+        alloc,
+        image,
+        Vec::new(alloc),
+        tell_fails.to_vec(alloc)?,
+        None,
+    );
     let status = tierra(alloc, &all, &mut source, &mut desk);
     Ok((status, desk.told().as_slice().to_vec(alloc)?))
 }
@@ -100,7 +111,11 @@ fn a_tell_that_fails_is_the_answer(rt: HostRuntime) -> Result<(), Fail> {
 
 #[test]
 fn texts_are_told_whole(rt: HostRuntime) -> Result<(), Fail> {
-    let rows: [(&str, &str, &str); 9] = [
+    let jump =
+        "quanta 1\nbirths 0\ndeaths 0\nliving 1\nfilled 5\nfront 1 ip 28 ax 0 bx 1 cx 0 dx 0 flag 0 errors 0\n\
+        genotypes 1\nkept 0\n0005aaa 1 1\n";
+    let rows: [(&str, &str, &str); 10] = [
+        ("grow --quanta 1", "jmp nop_0 inc_a nop_1 inc_b", jump),
         ("grow --quanta 1 --workers 1", FIRST, FIRST_REPORT),
         ("grow --quanta 1", FIRST, FIRST_REPORT),
         ("asm", "nop_0 divide ; end", "00 1f\n"),
@@ -172,7 +187,9 @@ fn other_words_are_refused(rt: HostRuntime) -> Result<(), Fail> {
     let alloc = rt.alloc();
     for words in [
         "",
-        "run",
+        "run --quanta 0",
+        "run --workers 1",
+        "run --quanta 5 --quanta 5",
         "grow --quanta 4000001",
         "grow --quanta 0",
         "grow --quanta 007",
@@ -238,28 +255,15 @@ fn is_refused(
 
 #[test]
 fn listings_are_refused_for_their_first_fault(rt: HostRuntime) -> Result<(), Fail> {
-    let unknown = SourceFault::Listing(AsmFault::UnknownName { line: 2 });
-    let empty = SourceFault::Listing(AsmFault::Empty);
-    let rows: [(&str, &str, SourceFault, &str); 6] = [
-        ("grow", "", empty, "listing is empty"),
+    let unknown = AsmFault::UnknownName { line: 2 };
+    let rows: [(&str, &str, AsmFault, &str); 4] = [
+        ("grow", "", AsmFault::Empty, "listing is empty"),
         ("grow", "zero\nzoro", unknown, "line 2: unknown instruction"),
-        (
-            "grow",
-            ANCESTOR,
-            SourceFault::NotBuilt { place: 10 },
-            "instruction 10 is not built",
-        ),
-        (
-            "grow",
-            "divide",
-            SourceFault::NotBuilt { place: 1 },
-            "instruction 1 is not built",
-        ),
         ("asm", "zero\nzoro", unknown, "line 2: unknown instruction"),
-        ("asm", "; 00", empty, "listing is empty"),
+        ("asm", "; 00", AsmFault::Empty, "listing is empty"),
     ];
     for (words, text, fault, reason) in rows {
-        let refused = is_refused(rt.alloc(), words, text, fault, reason)?;
+        let refused = is_refused(rt.alloc(), words, text, SourceFault::Listing(fault), reason)?;
         assert!(rt; refused, "{words} of {text}");
     }
     Ok(())
@@ -267,17 +271,26 @@ fn listings_are_refused_for_their_first_fault(rt: HostRuntime) -> Result<(), Fai
 
 #[test]
 fn hex_texts_are_refused_for_their_first_fault(rt: HostRuntime) -> Result<(), Fail> {
-    let not_hex = SourceFault::Hex(HexFault::NotHex { place: 2 });
-    let empty = SourceFault::Hex(HexFault::Empty);
-    let not_an_op = SourceFault::Dis(DisFault::NotAnOp { place: 1 });
-    let rows: [(&str, SourceFault, &str); 3] = [
-        ("1f 0", not_hex, "word 2: not two hexadecimal digits"),
-        ("", empty, "no instructions"),
-        ("20", not_an_op, "word 1: not an instruction"),
+    let rows: [(&str, HexFault, &str); 2] = [
+        (
+            "1f 0",
+            HexFault::NotHex { place: 2 },
+            "word 2: not two hexadecimal digits",
+        ),
+        ("", HexFault::Empty, "no instructions"),
     ];
     for (text, fault, reason) in rows {
-        let refused = is_refused(rt.alloc(), "dis", text, fault, reason)?;
+        let refused = is_refused(rt.alloc(), "dis", text, SourceFault::Hex(fault), reason)?;
         assert!(rt; refused, "{text}");
     }
+    let not_an_op = SourceFault::Dis(DisFault::NotAnOp { place: 1 });
+    let refused = is_refused(
+        rt.alloc(),
+        "dis",
+        "20",
+        not_an_op,
+        "word 1: not an instruction",
+    )?;
+    assert!(rt; refused);
     Ok(())
 }

@@ -1,52 +1,29 @@
 //! The call that does all that the program does.
 
 ghost use Rattle.std.specs.Prelude.{IsUtf8, ◌≡◌, ◌⊎◌, ◌+◌, ◌<◌, ◌≤◌, ◌++◌, ℕ, List, [], Some, IfOk, IfErr, IfSome, OnOk, length, map, not, position, take, string_bytes};
-ghost use Rattle.std.specs.List.{AllPass};
 ghost use Rattle.tierra_model.specs.Ranges.{IsCode};
-ghost use Rattle.soup_top.specs.Lone.{is_built};
+ghost use Rattle.desk_io.specs.Desk.{Same};
+ghost use Rattle.tierra_model.specs.Serial.{serial};
+ghost use Rattle.report_text.specs.Report.{report};
 ghost use Rattle.tierra_asm.specs.Listing.{listing_of};
 ghost use Rattle.soup_top.specs.Words.{IsOrder};
-ghost use Rattle.soup_top.specs.Sources.{IsTextOf, first_unbuilt, grow_text};
+ghost use Rattle.soup_top.specs.Sources.{IsTextOf};
 ghost use Rattle.soup_top.specs.Answers.{Cause, Told, IsTextAsked, OnDone, OnReadWhole, RefusesSource, UnlessReadFault, UnlessTellFault, UnlessTold, IsToldInPart};
 
-use crate::head::{Counts, add_counts, add_front};
-use crate::lone::run_lone;
 use crate::reading::{ReadStop, read_whole};
 use crate::status::{SourceFault, Status};
 use crate::words::{Order, order_asked};
 use desk_io::{Desk, Source};
+use report_text::report;
+use serial_slicer::run_serial;
+use soup_file::{FileFault, read_setup};
 use std::alloc::Global;
 use tierra_asm::{AsmFault, assemble};
 use tierra_dis::{DisFault, HexFault, disassemble, hex_line, read_hex};
-use tierra_model::{Code, OutOfMemory, Text};
+use tierra_model::{Code, OutOfMemory, Setup, Text, grow_setup};
 
 /// The most bytes that a source may have.
 const MOST_BYTES: usize = 1_048_576;
-
-/// Whether the instruction of the code runs.
-fn runs(code: u8) -> bool
-    ensures { result ≡ is_built code }
-{
-    code < 5 || code == 24
-}
-
-/// The place of the first instruction that does not run yet.
-fn place_unbuilt(code: &[u8]) -> Option<usize>
-    ensures { result ≡ position (λ v. not (is_built v)) code.now }
-{
-    code.iter().position(|code| !runs(*code))
-}
-
-/// The place, counted from 1, of the first instruction that does not run yet.
-fn unbuilt(code: &[u8]) -> Option<u32>
-    requires { length code.now ≤ 20000 }
-    ensures { result ≡ first_unbuilt code.now }
-{
-    match place_unbuilt(code) {
-        Some(place) => Some(place as u32 + 1),
-        None => None,
-    }
-}
 
 /// The bytes as a text.
 fn text_from(bytes: &[u8]) -> Result<&str, Status>
@@ -72,27 +49,13 @@ fn code_from(alloc: Global, text: &str) -> Result<Code, Status>
     }
 }
 
-/// What a run of the code tells.
-fn run_text(alloc: Global, code: &[u8], quanta: u64) -> Result<Text, OutOfMemory>
-    requires code { IsCode code.now }
-    requires built { AllPass is_built code.now }
+/// What a run of the setup tells.
+fn run_text(alloc: Global, setup: &Setup, quanta: u64) -> Result<Text, OutOfMemory>
     requires few { quanta ≤ 4000000 }
-    ensures { IfOk result (λ text. text ≡ grow_text code.now quanta) }
+    ensures { IfOk result (λ text. text ≡ report (serial setup.now quanta)) }
 {
-    let creature = run_lone(alloc, code, quanta)?;
-    let counts = Counts {
-        quanta,
-        births: 0,
-        deaths: 0,
-        living: 1,
-        filled: code.len() as u32,
-    };
-    let mut text = String::new(alloc);
-    add_counts(&mut text, counts)?;
-    add_front(&mut text, &creature)?;
-    Ok(Text {
-        items: text.into_bytes(),
-    })
+    let world = run_serial(alloc, setup, quanta)?;
+    report(alloc, &world)
 }
 
 /// What a run of the listing tells.
@@ -107,12 +70,31 @@ fn grow(alloc: Global, bytes: &[u8], quanta: u64) -> Result<Text, Status>
         Err(status) => return Err(status),
     };
     let code = code_from(alloc, text)?;
-    match unbuilt(&code.items) {
-        Some(place) => Err(Status::SourceRefused(SourceFault::NotBuilt { place })),
-        None => match run_text(alloc, &code.items, quanta) {
-            Ok(text) => Ok(text),
-            Err(_) => Err(Status::OutOfMemory),
-        },
+    let setup = match grow_setup(alloc, code) {
+        Ok(setup) => setup,
+        Err(_) => return Err(Status::OutOfMemory),
+    };
+    match run_text(alloc, &setup, quanta) {
+        Ok(text) => Ok(text),
+        Err(_) => Err(Status::OutOfMemory),
+    }
+}
+
+/// What a run of the soup file tells.
+fn run(alloc: Global, bytes: &[u8], quanta: u64) -> Result<Text, Status>
+    requires short { length bytes.now ≤ 1048576 }
+    requires few { quanta ≤ 4000000 }
+    ensures text { IfOk result (IsTextOf (Order.Run quanta) bytes.now) }
+    ensures refused { IfErr result (RefusesSource (Order.Run quanta) bytes.now) }
+{
+    let setup = match read_setup(alloc, bytes) {
+        Ok(setup) => setup,
+        Err(FileFault::OutOfMemory) => return Err(Status::OutOfMemory),
+        Err(fault) => return Err(Status::SourceRefused(SourceFault::File(fault))),
+    };
+    match run_text(alloc, &setup, quanta) {
+        Ok(text) => Ok(text),
+        Err(_) => Err(Status::OutOfMemory),
     }
 }
 
@@ -164,6 +146,7 @@ fn text_of(alloc: Global, order: Order, bytes: &[u8]) -> Result<Text, Status>
 {
     match order {
         Order::Grow { quanta } => grow(alloc, bytes, quanta),
+        Order::Run { quanta } => run(alloc, bytes, quanta),
         Order::Asm => asm(alloc, bytes),
         Order::Dis => dis(alloc, bytes),
     }
@@ -203,7 +186,8 @@ pub fn tierra<S: Source, D: Desk>(
     desk: &mut D,
 ) -> Status
     requires source_sound { S.faults source.old ≡ 0 }
-    requires desk_sound { D.tell_faults desk.old ≡ 0 }
+    requires disk_sound { D.disk_faults desk.old ≡ 0 }
+    requires tell_sound { D.tell_faults desk.old ≡ 0 }
 
     // Done tells the whole text, and nothing else.
     ensures done { OnDone result (IfSome (S.left source.old) (λ bytes. (text : List ℕ) × IsTextAsked (map string_bytes words.now.items) bytes text × Told (D.told desk.old) text (D.told desk.new))) }
@@ -225,6 +209,11 @@ pub fn tierra<S: Source, D: Desk>(
     // A count that rose is the answer.
     ensures source_steady { UnlessReadFault result (S.faults source.new ≡ 0) }
     ensures desk_steady { UnlessTellFault result (D.tell_faults desk.new ≡ 0) }
+
+    // The disk is not touched.
+    ensures disk_steady { D.disk_faults desk.new ≡ 0 }
+    ensures disk_reads { D.reads desk.new ≡ D.reads desk.old }
+    ensures disk_crash { Same (D.may_leave desk.old) (D.may_leave desk.new) }
 {
     match text_asked(alloc, words, source) {
         Ok(text) => match desk.tell(&text.items) {

@@ -14,6 +14,8 @@ const MOST_QUANTA: u64 = 4_000_000;
 pub(crate) enum Order {
     /// A run of the listing's creature.
     Grow { quanta: u64 },
+    /// A run of the soup file's creatures.
+    Run { quanta: u64 },
     /// The hexadecimal digits of a listing.
     Asm,
     /// The listing of hexadecimal digits.
@@ -49,17 +51,17 @@ fn quanta_from(alloc: Global, word: &str) -> Result<Option<u64>, OutOfMemory>
     }
 }
 
-/// The quanta that the words of a run ask for.
-fn quanta_asked(alloc: Global, words: &[String]) -> Result<Option<u64>, OutOfMemory>
-    ensures { IfOk result (λ found. MatchOption found ((n : ℕ) → AsksForRun (map string_bytes words.now) n → ⊥) (AsksForRun (map string_bytes words.now))) }
+/// The quanta that the words of a run by the action ask for.
+fn quanta_asked(alloc: Global, words: &[String], action: &str) -> Result<Option<u64>, OutOfMemory>
+    ensures { IfOk result (λ found. MatchOption found ((n : ℕ) → AsksForRun action.now (map string_bytes words.now) n → ⊥) (AsksForRun action.now (map string_bytes words.now))) }
 {
     match words {
-        [action] if action.as_str() == "grow" => Ok(Some(1000)),
-        [action, option, number] if action.as_str() == "grow" && option.as_str() == "--quanta" => {
+        [word] if word.as_str() == action => Ok(Some(1000)),
+        [word, option, number] if word.as_str() == action && option.as_str() == "--quanta" => {
             quanta_from(alloc, number.as_str())
         }
-        [action, option, number, other, workers]
-            if action.as_str() == "grow"
+        [word, option, number, other, workers]
+            if word.as_str() == action
                 && option.as_str() == "--quanta"
                 && other.as_str() == "--workers"
                 && workers.as_str() == "1" => { quanta_from(alloc, number.as_str()) }
@@ -87,8 +89,11 @@ pub(crate) fn order_asked(alloc: Global, words: &[String]) -> Result<Option<Orde
     if is_only_word(words, "dis") {
         return Ok(Some(Order::Dis));
     }
-    match quanta_asked(alloc, words)? {
+    match quanta_asked(alloc, words, "grow")? {
         Some(quanta) => Ok(Some(Order::Grow { quanta })),
-        None => Ok(None),
+        None => match quanta_asked(alloc, words, "run")? {
+            Some(quanta) => Ok(Some(Order::Run { quanta })),
+            None => Ok(None),
+        },
     }
 }

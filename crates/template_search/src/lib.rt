@@ -1,7 +1,7 @@
 //! The search for the complement of a template.
 //!
-//! The template of an instruction is the run of nops behind it, of at most ten cells. Its complement is sought at
-//! rising distances on both sides or on one, and the nearest match is found, the one ahead first at equal distance.
+//! The template of an instruction is the run of nops after it, of at most ten cells. Its complement is sought at rising
+//! distances on both sides or on one, and the nearest match is found, the one ahead first at equal distance.
 #![tactic(auto)]
 
 mod places;
@@ -13,21 +13,23 @@ ghost use Rattle.std.specs.Prelude.{◌≡◌, ◌<◌, ◌≤◌, ◌+◌, leng
 ghost use Rattle.tierra_model.specs.Look.{Passes};
 ghost use Rattle.tierra_model.specs.Search.{candidates, search_for, try_each};
 ghost use Rattle.template_search.specs.Sides.{on_sides};
+ghost use Rattle.template_search.specs.Places.{IfAt};
 
 use crate::places::{next_place, previous_place};
 use crate::template::{is_complement, read_template};
 use tierra_model::View;
 pub use tierra_model::{Found, Way};
 
-/// The cell behind the nearest complement of the template at `ip`: `Short` where the template has less than `min`
-/// cells, and `NoMatch` where nothing matches at a distance of 1 to `limit`.
+/// The cell after the nearest complement of the template of the instruction at `ip`: `Short` where the template has
+/// less than `min` cells, and `NoMatch` where nothing matches at a distance of 1 to `limit`.
 ///
-/// The looks at the view are those of the search cell by cell: the template and the cell that ends it, then of each
-/// candidate the cells up to the first mismatch.
+/// The cells looked at are, in order, the template and the cell that ends it, and then of each candidate the cells up
+/// to the first mismatch.
 pub fn search<V: View>(view: &mut V, ip: u32, way: Way, limit: u32, min: u32) -> Found
     requires ip { ip < V.size view.old }
     requires cells { V.size view.old ≤ 1048576 }
-    ensures { Passes V.cells V.looked (search_for (V.size view.old) ip way limit min) view.old view.new result }
+    ensures passes { Passes V.cells V.looked (search_for (V.size view.old) ip way limit min) view.old view.new result }
+    ensures below { IfAt result (λ p. p < V.size view.old) }
 {
     let size = view.size();
     let template = read_template(view, next_place(ip, size), size);

@@ -115,33 +115,27 @@ fn find(
 #[test]
 fn finds_the_nearest(rt: HostRuntime) -> Result<(), Fail> {
     let alloc = rt.alloc();
-    let both = &[(9, 0), (6, 1), (11, 1)];
+    let nops = &[(9, 0), (6, 1), (11, 1)];
+    let rows = [
+        (Way::Outward, 16, 1, (Found::At(12), 5)),
+        (Way::Backward, 16, 1, (Found::At(7), 4)),
+        (Way::Forward, 16, 1, (Found::At(12), 4)),
+        (Way::Outward, 1, 1, (Found::NoMatch, 4)),
+        (Way::Outward, 16, 2, (Found::Short, 2)),
+    ];
+    for (way, limit, min, want) in rows {
+        assert_eq!(rt; find(alloc, 16, nops, 8, way, limit, min)?, want);
+    }
     assert_eq!(rt;
-        find(alloc, 16, both, 8, Way::Outward, 16, 1)?,
-        (Found::At(12), 5)
-    );
-    assert_eq!(rt;
-        find(alloc, 16, both, 8, Way::Backward, 16, 1)?,
-        (Found::At(7), 4)
-    );
-    assert_eq!(rt;
-        find(alloc, 16, both, 8, Way::Forward, 16, 1)?,
-        (Found::At(12), 4)
-    );
-    assert_eq!(rt;
-        find(alloc, 16, both, 8, Way::Outward, 1, 1)?,
-        (Found::NoMatch, 4)
-    );
-    let none = &[(6, 1), (11, 1)];
-    assert_eq!(rt;
-        find(alloc, 16, none, 8, Way::Outward, 16, 1)?,
+        find(alloc, 16, &[(6, 1), (11, 1)], 8, Way::Outward, 16, 1)?,
         (Found::Short, 1)
     );
-    assert_eq!(rt;
-        find(alloc, 16, both, 8, Way::Outward, 16, 2)?,
-        (Found::Short, 2)
-    );
-    let eleven = &[
+    Ok(())
+}
+
+#[test]
+fn takes_ten_of_eleven_nops(rt: HostRuntime) -> Result<(), Fail> {
+    let nops = &[
         (1, 0),
         (2, 0),
         (3, 0),
@@ -165,7 +159,7 @@ fn finds_the_nearest(rt: HostRuntime) -> Result<(), Fail> {
         (29, 1),
     ];
     assert_eq!(rt;
-        find(alloc, 100, eleven, 0, Way::Outward, 50, 1)?,
+        find(rt.alloc(), 100, nops, 0, Way::Outward, 50, 1)?,
         (Found::At(30), 38)
     );
     Ok(())

@@ -1,7 +1,7 @@
-use Rattle.std.proofs.Common.{◌<◌, ◌∙◌, sym, ap, arith, map, subst}
+use Rattle.std.proofs.Common.{◌∙◌, sym, ap, map, subst}
 use Rattle.std.specs.Prelude.{string_bytes}
 use Rattle.desk_io.specs.Desk.{AppendedSome}
-use Rattle.soup_top.proofs.Causes.{cause-weaker, complete-by, told-in-part}
+use Rattle.soup_top.proofs.Causes.{told-in-part}
 use Rattle.soup_top.proofs.top.tierra.Goals as goal
 
 pub returns-in-Ok-clause-prefix : goal.returns-in-Ok-clause-prefix

@@ -1,0 +1,7 @@
+mod Appending
+mod AtRest
+mod Making
+mod Pieces
+mod Saying
+mod Shapes
+mod Times

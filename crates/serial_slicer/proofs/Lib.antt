@@ -1,0 +1,9 @@
+pub mod Soles
+pub mod Fronts
+pub mod Quanta
+pub mod Instructions
+pub mod Rooms
+pub mod Turns
+pub mod Acts
+pub mod Slices
+pub mod Serials

@@ -1,0 +1,96 @@
+use Rattle.std.proofs.Common.{◌≡◌, ◌+◌, ◌<◌, ◌≤◌, refl, sym, ◌∙◌, ap, subst, arith}
+use Rattle.tierra_model.specs.Quantum.{run, slice_of, world_machine}
+use Rattle.tierra_model.specs.World.{World, front, put}
+use Rattle.tierra_model.specs.declared.creatures.Creature.{Creature}
+use Rattle.mutation_streams.specs.Draws.{draws_of}
+use Rattle.world_core.specs.Running.{IsRunning}
+use Rattle.serial_slicer.proofs.Quanta.{quantum-running, sound-in_quantum}
+use Rattle.serial_slicer.proofs.Slices.{after_flip, counts_then, fits_then, none_run, quantum_is, quantum_then, running_before, running_run, settings_then, taken, then_next, within_then}
+use Rattle.serial_slicer.proofs.Turns.{slice_few}
+use Rattle.serial_slicer.proofs.slice.run_quantum.Goals as goal
+
+pub front-requires : goal.front-requires
+front-requires g c = quantum-running c.args.sole.now.world (sound-in_quantum c.args.sole.now.world c.requires.sound c.requires.more)
+
+pub flip-requires-clause-within : goal.flip-requires-clause-within
+flip-requires-clause-within g c = quantum-running c.args.sole.now.world (sound-in_quantum c.args.sole.now.world c.requires.sound c.requires.more)
+
+pub disturb-requires-clause-within : goal.disturb-requires-clause-within
+disturb-requires-clause-within g c = (after_flip c.args.settings.now c.args.sole.now.world c.requires.sound c.requires.more c.requires.settings c.flip.new.self.world c.flip.ensures).quantum
+
+pub disturb-requires-clause-settings : goal.disturb-requires-clause-settings
+disturb-requires-clause-settings g c = c.requires.settings ∙ sym (after_flip c.args.settings.now c.args.sole.now.world c.requires.sound c.requires.more c.requires.settings c.flip.new.self.world c.flip.ensures).settings
+
+pub begin_turn-creature-requires : goal.begin_turn-creature-requires
+begin_turn-creature-requires g c =
+    running_run c.args.settings.now c.args.sole.now.world c.requires.sound c.requires.more c.requires.settings 0 c.disturb.new.sole.world (omega arith) (none_run c.args.settings.now c.args.sole.now.world c.requires.sound c.requires.more c.requires.settings c.flip.new.self.world c.disturb.new.sole.world c.flip.ensures c.in_ok-disturb.ensures)
+
+pub loop-i-init : goal.loop-i-init
+loop-i-init g c =
+    let none = none_run c.args.settings.now c.args.sole.now.world c.requires.sound c.requires.more c.requires.settings c.flip.new.self.world c.disturb.new.sole.world c.flip.ensures c.in_ok-disturb.ensures in
+    let b = c.begin_turn-creature.ensures in
+    record {
+      turn = b.turn;
+      world = taken c.args.settings.now c.args.sole.now.world c.requires.sound c.requires.more c.requires.settings c.disturb.new.sole.world c.begin_turn-creature.new.self.world c.begin_turn-creature.result none b.world b.record;
+    }
+
+pub instruction-requires-clause-within : goal.instruction-requires-clause-within
+instruction-requires-clause-within g c =
+    let few : c.slice_of-slice.result ≤ 10000 = subst (λ n. n ≤ 10000) (sym c.slice_of-slice.ensures) (slice_few c.front.result.now.own.size c.args.settings.now) in
+    within_then c.args.settings.now c.args.sole.now.world c.requires.sound c.requires.more c.requires.settings c.loop-i.i c.loop-i.creature c.loop-i.sole.world (omega arith) c.loop-i.invariant.turn.shares c.loop-i.invariant.world
+
+pub instruction-requires-clause-moved : goal.instruction-requires-clause-moved
+instruction-requires-clause-moved g c =
+    let few : c.slice_of-slice.result ≤ 10000 = subst (λ n. n ≤ 10000) (sym c.slice_of-slice.ensures) (slice_few c.front.result.now.own.size c.args.settings.now) in
+    (counts_then c.args.settings.now c.args.sole.now.world c.requires.sound c.requires.more c.requires.settings c.loop-i.i c.loop-i.creature c.loop-i.sole.world (omega arith) c.loop-i.invariant.turn.shares c.loop-i.invariant.world).0
+
+pub instruction-requires-clause-ran : goal.instruction-requires-clause-ran
+instruction-requires-clause-ran g c =
+    let few : c.slice_of-slice.result ≤ 10000 = subst (λ n. n ≤ 10000) (sym c.slice_of-slice.ensures) (slice_few c.front.result.now.own.size c.args.settings.now) in
+    (counts_then c.args.settings.now c.args.sole.now.world c.requires.sound c.requires.more c.requires.settings c.loop-i.i c.loop-i.creature c.loop-i.sole.world (omega arith) c.loop-i.invariant.turn.shares c.loop-i.invariant.world).1
+
+pub instruction-requires-clause-settings : goal.instruction-requires-clause-settings
+instruction-requires-clause-settings g c =
+    let few : c.slice_of-slice.result ≤ 10000 = subst (λ n. n ≤ 10000) (sym c.slice_of-slice.ensures) (slice_few c.front.result.now.own.size c.args.settings.now) in
+    settings_then c.args.settings.now c.args.sole.now.world c.requires.sound c.requires.more c.requires.settings c.loop-i.i c.loop-i.creature c.loop-i.sole.world (omega arith) c.loop-i.invariant.turn.shares c.loop-i.invariant.world
+
+pub instruction-requires-clause-draws : goal.instruction-requires-clause-draws
+instruction-requires-clause-draws g c =
+    let few : c.slice_of-slice.result ≤ 10000 = subst (λ n. n ≤ 10000) (sym c.slice_of-slice.ensures) (slice_few c.front.result.now.own.size c.args.settings.now) in
+    c.new-draws.ensures ∙ ap (λ n. draws_of c.args.settings.now (n + 1)) c.quanta.ensures
+    ∙ ap (draws_of c.args.settings.now) (sym (quantum_then c.args.settings.now c.args.sole.now.world c.requires.sound c.requires.more c.requires.settings c.loop-i.i c.loop-i.creature c.loop-i.sole.world (omega arith) c.loop-i.invariant.turn.shares c.loop-i.invariant.world))
+
+pub instruction-requires-clause-next : goal.instruction-requires-clause-next
+instruction-requires-clause-next g c =
+    let few : c.slice_of-slice.result ≤ 10000 = subst (λ n. n ≤ 10000) (sym c.slice_of-slice.ensures) (slice_few c.front.result.now.own.size c.args.settings.now) in
+    running_run c.args.settings.now c.args.sole.now.world c.requires.sound c.requires.more c.requires.settings (c.loop-i.i + 1) _ (omega (arith, c.loop-i-test.true))
+    (then_next c.args.settings.now c.args.sole.now.world c.requires.sound c.requires.more c.requires.settings c.loop-i.i c.loop-i.creature c.loop-i.sole.world (omega arith) c.loop-i.invariant.turn.shares c.loop-i.invariant.world)
+
+pub loop-i-preserved : goal.loop-i-preserved
+loop-i-preserved g c =
+    let few : c.slice_of-slice.result ≤ 10000 = subst (λ n. n ≤ 10000) (sym c.slice_of-slice.ensures) (slice_few c.front.result.now.own.size c.args.settings.now) in
+    record {
+      turn = c.in_ok-instruction.ensures.turn;
+      world = c.in_ok-instruction.ensures.world ∙ then_next c.args.settings.now c.args.sole.now.world c.requires.sound c.requires.more c.requires.settings c.loop-i.i c.loop-i.creature c.loop-i.sole.world (omega arith) c.loop-i.invariant.turn.shares c.loop-i.invariant.world;
+    }
+
+pub put-requires-clause-within : goal.put-requires-clause-within
+put-requires-clause-within g c =
+    let few : c.slice_of-slice.result ≤ 10000 = subst (λ n. n ≤ 10000) (sym c.slice_of-slice.ensures) (slice_few c.front.result.now.own.size c.args.settings.now) in
+    running_before c.args.settings.now c.args.sole.now.world c.requires.sound c.requires.more c.requires.settings c.loop-i.i c.loop-i.creature c.loop-i.sole.world (omega arith) c.loop-i.invariant.turn.shares c.loop-i.invariant.world
+
+pub put-requires-clause-fits : goal.put-requires-clause-fits
+put-requires-clause-fits g c =
+    let few : c.slice_of-slice.result ≤ 10000 = subst (λ n. n ≤ 10000) (sym c.slice_of-slice.ensures) (slice_few c.front.result.now.own.size c.args.settings.now) in
+    fits_then c.args.settings.now c.args.sole.now.world c.requires.sound c.requires.more c.requires.settings c.loop-i.i c.loop-i.creature c.loop-i.sole.world (omega arith) c.loop-i.invariant.turn.shares c.loop-i.invariant.world
+
+pub end_turn-requires : goal.end_turn-requires
+end_turn-requires g c =
+    let few : c.slice_of-slice.result ≤ 10000 = subst (λ n. n ≤ 10000) (sym c.slice_of-slice.ensures) (slice_few c.front.result.now.own.size c.args.settings.now) in
+    running_run c.args.settings.now c.args.sole.now.world c.requires.sound c.requires.more c.requires.settings c.loop-i.i c.put.new.self.world (omega arith) (c.put.ensures ∙ c.loop-i.invariant.world)
+
+pub returns : goal.returns
+returns g c =
+    let n : c.loop-i.i ≡ c.slice_of-slice.result = omega arith in
+    let slice = n ∙ c.slice_of-slice.ensures ∙ ap (λ (x : Creature). slice_of x.own.size c.args.settings.now) c.front.ensures in
+    c.end_turn.ensures ∙ quantum_is c.args.settings.now c.args.sole.now.world c.requires.sound c.requires.more c.requires.settings c.loop-i.i c.put.new.self.world slice (c.put.ensures ∙ c.loop-i.invariant.world)

@@ -1,0 +1,40 @@
+-- A world in a quantum, and the record of the creature that runs, which is kept out of it.
+use Rattle.std.specs.Prelude.{Option, length, ℕ, ◌<◌, ◌^◌, ◌≡◌}
+use Rattle.tierra_model.specs.declared.creatures.Block.{Block}
+use Rattle.tierra_model.specs.declared.creatures.Creature.{Creature}
+use Rattle.tierra_model.specs.declared.parameters.Settings.{Settings}
+use Rattle.tierra_model.specs.World.{World, front}
+use Rattle.tierra_model.proofs.Shares.{Shares}
+use Rattle.tierra_model.proofs.WithinQuantum.{WithinQuantum}
+use Rattle.world_core.specs.Running.{AllReady, WorldFields}
+
+-- what contracts see: the world, and the blocks in which cells may be set
+pub record SoleFields : Type 0 where
+  pub world : World
+  pub own : Block
+  pub daughter : Option Block
+
+-- all cells can be set
+pub record IsSole (h : WorldFields) : Type 0 where
+  pub size : length h.world.soup ≡ h.world.settings.soup_size
+  pub ready : AllReady h
+
+-- The record c of the creature at the front, whose turn it is, may differ in its registers and counts from the one that
+-- the world has; cells may be set in its blocks.
+pub record IsTurn (c : Creature) (v : SoleFields) : Type 0 where
+  pub shares : Shares (front v.world) c
+  pub own : v.own ≡ c.own
+  pub daughter : v.daughter ≡ c.daughter
+
+-- The world is within the quantum that runs: what each event keeps holds of it, and one more of each count can be added.
+pub record InQuantum (w : World) : Type 0 where
+  pub settings : Settings
+  pub errors : ℕ
+  pub copies : ℕ
+  pub births : ℕ
+  pub size : ℕ
+  pub quantum : ℕ
+  pub within : WithinQuantum settings errors copies births size quantum w
+  pub few_errors : errors < 2 ^ 60
+  pub few_births : births < 2 ^ 60
+  pub few_quanta : quantum < 4000001

@@ -1,0 +1,53 @@
+//! A run of one creature at a time, in place.
+#![tactic(auto)]
+
+mod mal;
+mod slice;
+mod sole;
+
+ghost use Rattle.std.specs.Prelude.{◌≡◌, ◌<◌, ◌≤◌, IfOk, OnOk};
+ghost use Rattle.tierra_model.specs.Serial.{serial};
+ghost use Rattle.tierra_model.specs.Sound.{IsSound};
+
+use crate::slice::run_quantum;
+use crate::sole::Sole;
+use std::alloc::Global;
+use std::marker::Brand;
+use std::sync::ledger::{Blank, Ledger};
+use step_count::Steps;
+use tierra_model::{OutOfMemory, Setup};
+use world_core::World;
+
+/// The world after the first `n` quanta.
+pub fn run_serial(alloc: Global, setup: &Setup, n: u64) -> Result<World, OutOfMemory>
+    requires { n ≤ 4000000 }
+    ensures { IfOk result (λ w. w.world ≡ serial setup.now n) }
+{
+    counted::<Brand>(alloc, setup, n, Blank::new(1))
+}
+
+// The same, with an account of the instructions that only contracts see.
+fn counted<L: Ledger>(
+    alloc: Global,
+    setup: &Setup,
+    n: u64,
+    blank: Blank,
+) -> Result<World, OutOfMemory>
+    requires few { n ≤ 4000000 }
+    requires name { blank.name ≡ L.name }
+    requires parts { blank.parts ≡ L.parts }
+    requires some { 0 < L.parts }
+    ensures { IfOk result (λ w. w.world ≡ serial setup.now n) }
+{
+    let settings = setup.settings;
+    let running = World::start(alloc, setup)?.begin();
+    let mut sole = Sole::new(running)?;
+    let mut steps = Steps::<L>::start(blank);
+    for _quantum in 0..n {
+        run_quantum(alloc, &mut sole, &settings, &mut steps)?;
+    }
+    Ok(sole.into_running().finish())
+}
+
+#[cfg(test)]
+mod tests;

@@ -1,0 +1,133 @@
+//! One quantum.
+
+ghost use Rattle.std.specs.Prelude.{◌≡◌, ◌+◌, ◌<◌, ◌^◌, OnOk, IsSome, ◌≤◌, ℕ};
+ghost use Rattle.tierra_model.specs.declared.events.Act.TheVariants as act;
+ghost use Rattle.tierra_model.specs.Draw.{word};
+ghost use Rattle.tierra_model.specs.Quantum.{disturb, instruction, is_disturbed, perform, quantum, reap_times, world_machine};
+ghost use Rattle.tierra_model.specs.Sound.{IsSound};
+ghost use Rattle.tierra_model.specs.World.{front, put};
+ghost use Rattle.mutation_streams.specs.Draws.{draws_of};
+ghost use Rattle.world_core.specs.Running.{IsRunning};
+ghost use Rattle.serial_slicer.specs.Turns.{InQuantum, IsTurn};
+
+use crate::mal::mal;
+use crate::sole::Sole;
+use cpu_core::step;
+use mutation_streams::Draws;
+use slicer_queue::slice_of;
+use std::alloc::Global;
+use std::sync::ledger::Ledger;
+use step_count::Steps;
+use tierra_model::{Act, Creature, OutOfMemory, Settings};
+
+/// The next quantum.
+pub(crate) fn run_quantum<L: Ledger>(
+    alloc: Global,
+    sole: &mut Sole,
+    settings: &Settings,
+    steps: &mut Steps<L>,
+) -> Result<(), OutOfMemory>
+    requires sound { IsSound sole.old.world }
+    requires more { sole.old.world.quanta < 4000000 }
+    requires settings { settings.now ≡ sole.old.world.settings }
+    ensures { OnOk result (sole.new.world ≡ quantum sole.old.world) }
+{
+    let draws = Draws::new(settings, sole.quanta() + 1);
+    let slice = slice_of(sole.front().own.size, settings);
+    sole.flip(&draws);
+    disturb(sole, settings)?;
+    let mut creature = sole.begin_turn();
+    for i in 0..slice {
+        instruction(alloc, &mut creature, sole, &draws, i, settings, steps)?;
+    }
+    sole.put(creature);
+    sole.end_turn();
+    Ok(())
+}
+
+// Where the disturbance is due, so many in a hundred of the living die, but never the creature whose turn it is.
+fn disturb(sole: &mut Sole, settings: &Settings) -> Result<(), OutOfMemory>
+    requires within { InQuantum sole.old.world }
+    requires settings { settings.now ≡ sole.old.world.settings }
+    ensures { OnOk result (sole.new.world ≡ disturb world_machine settings.now (is_disturbed settings.now.dist_every (sole.old.world.quanta + 1)) sole.old.world) }
+{
+    if is_disturbed(settings.dist_every, sole.quanta() + 1) {
+        let dying = u64::from(sole.reaper_len()) * u64::from(settings.dist_percent) / 100;
+        reap_times(sole, dying)
+    } else {
+        Ok(())
+    }
+}
+
+// Whether the disturbance is due in the quantum.
+fn is_disturbed(every: u32, quantum: u64) -> bool
+    ensures { result ≡ is_disturbed every quantum }
+{
+    every > 0 && quantum % u64::from(every) == 0
+}
+
+// So often the first creature of the reaper queue other than the one whose turn it is dies, while there is one.
+fn reap_times(sole: &mut Sole, times: u64) -> Result<(), OutOfMemory>
+    requires { InQuantum sole.old.world }
+    ensures { OnOk result (sole.new.world ≡ reap_times world_machine sole.old.world.settings times sole.old.world) }
+{
+    for _dead in 0..times {
+        match sole.victim() {
+            Some(place) => sole.reap(place)?,
+            None => return Ok(()),
+        }
+    }
+    Ok(())
+}
+
+// One instruction of the creature whose turn it is, on its record, which is kept out of the world.
+fn instruction<L: Ledger>(
+    alloc: Global,
+    creature: &mut Creature,
+    sole: &mut Sole,
+    draws: &Draws,
+    i: u32,
+    settings: &Settings,
+    steps: &mut Steps<L>,
+) -> Result<(), OutOfMemory>
+    requires turn { IsTurn creature.old sole.old }
+    requires within { InQuantum (put creature.old sole.old.world) }
+    requires moved { creature.old.moved < 2 ^ 60 }
+    requires ran { creature.old.ran < 2 ^ 60 }
+    requires settings { settings.now ≡ sole.old.world.settings }
+    requires draws { draws.now ≡ draws_of settings.now (sole.old.world.quanta + 1) }
+    requires next { IsRunning (instruction world_machine settings.now (word settings.now.seed (sole.old.world.quanta + 1)) i (put creature.old sole.old.world)) }
+    ensures turn { OnOk result (IsTurn creature.new sole.new) }
+    ensures world { OnOk result (put creature.new sole.new.world ≡ instruction world_machine settings.now (word settings.now.seed (sole.old.world.quanta + 1)) i (put creature.old sole.old.world)) }
+{
+    match step(creature, sole, draws, i, settings, steps) {
+        Act::Plain | Act::Wrote { .. } => Ok(()),
+        Act::Erred => {
+            sole.err();
+            Ok(())
+        }
+        Act::Mal { size } => {
+            sole.put(*creature);
+            mal(sole, size)?;
+            *creature = sole.begin_turn();
+            Ok(())
+        }
+        Act::Divide => {
+            sole.put(*creature);
+            divide(alloc, sole)?;
+            *creature = sole.begin_turn();
+            Ok(())
+        }
+    }
+}
+
+// The mother makes her good move, and her daughter is born.
+fn divide(alloc: Global, sole: &mut Sole) -> Result<(), OutOfMemory>
+    requires within { InQuantum sole.old.world }
+    requires held { IsSome (front sole.old.world).daughter }
+    requires ran { 1 ≤ (front sole.old.world).ran }
+    ensures { OnOk result (sole.new.world ≡ perform world_machine sole.old.world.settings act.Divide sole.old.world) }
+{
+    sole.good();
+    sole.bear(alloc)
+}

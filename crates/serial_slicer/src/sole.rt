@@ -1,0 +1,290 @@
+//! A world of which nobody has a version.
+
+ghost use Rattle.std.specs.Prelude.{◌≡◌, ◌<◌, ◌^◌, ◌≤◌, IfOk, IfSome, IsSome, OnOk, ℕ, length, slice_index, true};
+ghost use Rattle.std.specs.Option.{ForSome};
+ghost use Rattle.tierra_model.specs.declared.events.Act.TheVariants as act;
+ghost use Rattle.tierra_model.specs.declared.events.Event.TheVariants as event;
+ghost use Rattle.tierra_model.specs.Draw.{back_flip, word};
+ghost use Rattle.tierra_model.specs.Events.{apply_event, turn_end as turn_end_of};
+ghost use Rattle.tierra_model.specs.Quantum.{flip, perform, world_machine};
+ghost use Rattle.tierra_model.specs.Queue.{place_of_first_other};
+ghost use Rattle.tierra_model.specs.Replay.{CanHappen, RecordFits};
+ghost use Rattle.tierra_model.specs.Room.{is_owned, room_for};
+ghost use Rattle.tierra_model.specs.World.{front, put};
+ghost use Rattle.mutation_streams.specs.Draws.{draws_of};
+ghost use Rattle.world_core.specs.Running.{IsRunning, can_be_set};
+ghost use Rattle.serial_slicer.specs.Turns.{InQuantum, IsTurn};
+
+use mutation_streams::Draws;
+use std::alloc::Global;
+use std::marker::Model;
+use tierra_model::{Block, Creature, OutOfMemory, Settings, View};
+use world_core::Running;
+
+/// A running world that is nowhere else, so all its cells can be set: in the blocks of the creature whose turn it is.
+#[derive(Drop)]
+pub(crate) struct Sole {
+    running: Running,
+    own: Block,
+    daughter: Option<Block>,
+}
+
+impl Model for Sole {
+    ghost use Rattle.serial_slicer.specs.Turns.{IsSole, SoleFields};
+
+    ghost Value = { SoleFields };
+
+    ghost view = { λ s. record { world = s.running.world; own = s.own; daughter = s.daughter } };
+
+    ghost invariant = { λ s. IsSole s.running };
+}
+
+impl View for Sole {
+    ghost use Rattle.std.specs.Prelude.{◌||◌, slice_set};
+    ghost use Rattle.std.proofs.Common.{length-set, refl};
+    ghost use Rattle.tierra_model.specs.Blocks.{is_in, is_in_daughter};
+    ghost use Rattle.serial_slicer.specs.Written.{cell-set};
+
+    ghost size = { λ v. length v.world.soup };
+
+    ghost cells = { λ v p. slice_index v.world.soup p };
+
+    ghost writable = { λ v p. is_in v.own p || is_in_daughter v.daughter p };
+
+    ghost looked = { λ v p. v };
+
+    ghost written = { λ v p x. record v { world = record v.world { soup = slice_set v.world.soup p x } } };
+
+    ghost look_keeps_size = { λ v p. refl };
+
+    ghost look_keeps_cells = { λ v p q. refl };
+
+    ghost look_keeps_writable = { λ v p q. refl };
+
+    ghost write_keeps_size = { λ v p x _ _ _. length-set v.world.soup p x };
+
+    ghost write_sets_cell = { λ v p x q here _ _ there. cell-set v.world.soup p x q here };
+
+    ghost write_keeps_writable = { λ v p x q _ _ _. refl };
+
+    fn size(&self) -> u32 {
+        self.running.settings().soup_size
+    }
+
+    fn get(&mut self, at: u32) -> u8 {
+        self.running.cell(at)
+    }
+
+    fn may_write(&self, at: u32) -> bool {
+        has(self.own, at) || self.daughter.is_some_and(|block| has(block, at))
+    }
+
+    fn set(&mut self, at: u32, value: u8) {
+        self.running.write(at, value);
+    }
+}
+
+ghost use Rattle.tierra_model.specs.Blocks.{is_in};
+
+// Whether the block has the cell.
+fn has(block: Block, at: u32) -> bool
+    ensures { result ≡ is_in block at }
+{
+    block.at <= at && at - block.at < block.size
+}
+
+impl Sole {
+    /// Makes all cells of a world ready, of which nobody has a version.
+    pub(crate) fn new(running: Running) -> Result<Sole, OutOfMemory>
+        requires { length running.world.soup ≡ running.world.settings.soup_size }
+        ensures { IfOk result (λ s. s.world ≡ running.world) }
+    {
+        let mut running = running;
+        let size = running.settings().soup_size;
+        for at in 0..size {
+            running.ready(at)?;
+        }
+        let none = Block { at: 0, size: 0 };
+        Ok(Sole {
+            running,
+            own: none,
+            daughter: None,
+        })
+    }
+
+    /// The world as it runs.
+    pub(crate) fn into_running(self) -> Running
+        ensures { result.world ≡ self.world }
+    {
+        self.running
+    }
+
+    pub(crate) fn settings(&self) -> &Settings
+        ensures { result.now ≡ self.now.world.settings }
+    {
+        self.running.settings()
+    }
+
+    pub(crate) fn quanta(&self) -> u64
+        ensures { result ≡ self.now.world.quanta }
+    {
+        self.running.quanta()
+    }
+
+    /// The creature whose turn it is.
+    pub(crate) fn front(&self) -> &Creature
+        requires { IsRunning self.now.world }
+        ensures { result.now ≡ front self.now.world }
+    {
+        self.running.front()
+    }
+
+    /// Where a daughter block of the size is to go, if there is room.
+    pub(crate) fn room_for(&self, size: u32) -> Option<u32>
+        requires within { IsRunning self.now.world }
+        requires one { 1 ≤ size }
+        requires few { size ≤ 20000 }
+        ensures { result ≡ room_for self.now.world.settings (λ p. is_owned self.now.world.living p) size }
+    {
+        self.running.room_for(size)
+    }
+
+    /// The place in the reaper queue of the first creature other than the one whose turn it is.
+    pub(crate) fn victim(&self) -> Option<u32>
+        requires { IsRunning self.now.world }
+        ensures { result ≡ place_of_first_other (front self.now.world).id self.now.world.reaper }
+    {
+        self.running.victim()
+    }
+
+    /// How many creatures live, all of whom are in the reaper queue.
+    pub(crate) fn reaper_len(&self) -> u32
+        ensures { result ≡ length self.now.world.reaper }
+    {
+        self.running.reaper_len()
+    }
+
+    // ---- events
+
+    /// The creature whose turn it is errs.
+    pub(crate) fn err(&mut self)
+        requires { IsRunning self.old.world }
+        ensures world { self.new.world ≡ apply_event self.old.world event.Err }
+        ensures own { self.new.own ≡ self.old.own }
+        ensures daughter { self.new.daughter ≡ self.old.daughter }
+    {
+        self.running.err();
+    }
+
+    /// It makes a good move in the reaper queue.
+    pub(crate) fn good(&mut self)
+        requires { IsRunning self.old.world }
+        ensures { self.new.world ≡ apply_event self.old.world event.Good }
+    {
+        self.running.good();
+    }
+
+    /// It gives up its daughter block.
+    pub(crate) fn give_up(&mut self) -> Result<(), OutOfMemory>
+        requires within { IsRunning self.old.world }
+        requires can { CanHappen self.old.world event.GiveUp }
+        ensures { OnOk result (self.new.world ≡ apply_event self.old.world event.GiveUp) }
+    {
+        self.running.reserve(0, 1)?;
+        self.running.give_up();
+        Ok(())
+    }
+
+    /// It takes a daughter block.
+    pub(crate) fn take(&mut self, block: Block) -> Result<(), OutOfMemory>
+        requires within { IsRunning self.old.world }
+        requires can { CanHappen self.old.world (event.Mal block.at block.size) }
+        ensures { OnOk result (self.new.world ≡ apply_event self.old.world (event.Mal block.at block.size)) }
+    {
+        self.running.reserve(0, 1)?;
+        self.running.mal(block);
+        Ok(())
+    }
+
+    /// The creature at a place of the reaper queue, not the one whose turn it is, dies.
+    pub(crate) fn reap(&mut self, place: u32) -> Result<(), OutOfMemory>
+        requires within { IsRunning self.old.world }
+        requires can { CanHappen self.old.world (event.Reap place) }
+        ensures { OnOk result (self.new.world ≡ apply_event self.old.world (event.Reap place)) }
+    {
+        self.running.reserve(0, 2)?;
+        self.running.reap(place);
+        Ok(())
+    }
+
+    /// Its daughter is born.
+    pub(crate) fn bear(&mut self, alloc: Global) -> Result<(), OutOfMemory>
+        requires within { IsRunning self.old.world }
+        requires held { IsSome (front self.old.world).daughter }
+        requires ran { 1 ≤ (front self.old.world).ran }
+        ensures { OnOk result (self.new.world ≡ apply_event self.old.world (event.Divide (front self.old.world).ran (front self.old.world).moved)) }
+    {
+        let code = self.running.daughter_code(alloc)?;
+        self.running.reserve(1, 0)?;
+        let mother = *self.running.front();
+        self.running.divide(mother.ran, mother.moved, code);
+        Ok(())
+    }
+
+    /// The background flip.
+    pub(crate) fn flip(&mut self, draws: &Draws)
+        requires within { IsRunning self.old.world }
+        requires draws { draws.now ≡ draws_of self.old.world.settings (self.old.world.quanta + 1) }
+        ensures { self.new.world ≡ flip world_machine self.old.world.settings (back_flip self.old.world.settings.back_rate (word self.old.world.settings.seed (self.old.world.quanta + 1)) self.old.world.settings.soup_size) self.old.world }
+    {
+        if let Some((at, bit)) = draws.back() {
+            let value = flip_bit(self.running.cell(at), bit);
+            self.running.write(at, value);
+        }
+    }
+
+    // ---- turns
+
+    /// The record of the creature whose turn it is, in whose blocks cells may now be set.
+    pub(crate) fn begin_turn(&mut self) -> Creature
+        requires { IsRunning self.old.world }
+        ensures world { self.new.world ≡ self.old.world }
+        ensures record { result ≡ front self.old.world }
+        ensures turn { IsTurn result self.new }
+    {
+        let creature = *self.running.front();
+        self.own = creature.own;
+        self.daughter = creature.daughter;
+        creature
+    }
+
+    /// The record of the creature whose turn it is, as it is now.
+    pub(crate) fn put(&mut self, after: Creature)
+        requires within { IsRunning self.old.world }
+        requires fits { RecordFits (front self.old.world) after }
+        ensures { self.new.world ≡ put after self.old.world }
+    {
+        self.running.put(after);
+    }
+
+    /// The creature goes to the back of the slicer queue, and the quantum is counted.
+    pub(crate) fn end_turn(&mut self)
+        requires { IsRunning self.old.world }
+        ensures { self.new.world ≡ turn_end_of self.old.world }
+    {
+        self.running.turn_end();
+    }
+}
+
+ghost use Rattle.std.specs.Prelude.{Some, ◌+◌};
+ghost use Rattle.tierra_model.specs.Step.{flip_bit};
+
+// The value with the bit flipped.
+fn flip_bit(value: u8, bit: u8) -> u8
+    requires value { value < 32 }
+    requires bit { bit < 5 }
+    ensures flip { result ≡ flip_bit value (Some bit) }
+    ensures below { result < 32 }
+{
+    value ^ (1 << bit)
+}

@@ -1,0 +1,261 @@
+use super::*;
+use soup_file::read_setup;
+use std::test::Fail;
+use tierra_model::{Effort, Now};
+
+const ANCESTOR: &str = "
+nop_1 nop_1 nop_1 nop_1 zero or1 shl shl mov_cd adrb nop_0 nop_0 nop_0 nop_0 sub_ac mov_ab
+adrf nop_0 nop_0 nop_0 nop_1 inc_a sub_ab nop_1 nop_1 nop_0 nop_1 mal call nop_0 nop_0 nop_1
+nop_1 divide jmp nop_0 nop_0 nop_1 nop_0 if_cz nop_1 nop_1 nop_0 nop_0 push_ax push_bx push_cx nop_1
+nop_0 nop_1 nop_0 mov_iab dec_c if_cz jmp nop_0 nop_1 nop_0 nop_0 inc_a inc_b jmp nop_0 nop_1
+nop_0 nop_1 if_cz nop_1 nop_0 nop_1 nop_1 pop_cx pop_bx pop_ax ret nop_1 nop_1 nop_1 nop_0 if_cz
+";
+
+/// The world after so many quanta of the setup of a soup file.
+fn run_file(alloc: Global, file: &str, quanta: u16) -> Result<World, Fail> {
+    let setup = read_setup(alloc, file.as_bytes())?;
+    Ok(run_serial(alloc, &setup, u64::from(quanta))?)
+}
+
+/// The world after so many quanta of the ancestor, with these settings.
+fn run_ancestor(alloc: Global, settings: &str, quanta: u16) -> Result<World, Fail> {
+    let file = format!(in alloc;
+        "{settings}\n[[creature]]\nat = 0\ncode = \"\"\"{ANCESTOR}\"\"\"\n"
+    )?;
+    run_file(alloc, file.as_str(), quanta)
+}
+
+/// The counts of a world, and the creature at the front of the slicer queue.
+fn line_of(alloc: Global, world: &World) -> Result<String, Fail> {
+    let front = world.front();
+    let counts = format!(in alloc;
+        "births {} deaths {} living {} filled {}",
+        world.births(),
+        world.deaths(),
+        world.yard_len(),
+        world.filled()
+    )?;
+    let line = format!(in alloc;
+        "{counts} front {} ip {} ax {} bx {} cx {} dx {} flag {} errors {}",
+        front.id, front.ip, front.ax, front.bx, front.cx, front.dx, front.flag, front.errors
+    )?;
+    Ok(line)
+}
+
+/// The sum over all cells of the cell's number, counted from 1, times what it holds.
+fn weight_of(world: &World) -> u64 {
+    let mut weight: u64 = 0;
+    for at in 0..world.settings().soup_size {
+        let cell = u64::from(world.cell(at));
+        weight = weight.wrapping_add((u64::from(at) + 1) * cell);
+    }
+    weight
+}
+
+/// The first and the second effort of genotype 0.
+fn efforts_of(world: &World) -> (Option<Effort>, Option<Effort>) {
+    if world.genotypes().len() == 0 {
+        return (None, None);
+    }
+    (world.first(0), world.second(0))
+}
+
+#[test]
+fn the_ancestor_breeds(rt: HostRuntime) -> Result<(), Fail> {
+    let alloc = rt.alloc();
+    let first = Some(Effort {
+        ran: 839,
+        moved: 80,
+    });
+    let second = Some(Effort {
+        ran: 813,
+        moved: 80,
+    });
+    let rows = [
+        (
+            33,
+            "births 0 deaths 0 living 1 filled 160 front 1 ip 61 ax 159 bx 79 cx 1 dx 4 flag 0 errors 0",
+            (None, None),
+        ),
+        (
+            34,
+            "births 1 deaths 0 living 2 filled 240 front 2 ip 80 ax 0 bx 0 cx 0 dx 0 flag 0 errors 0",
+            (first, None),
+        ),
+        (
+            99,
+            "births 1 deaths 0 living 2 filled 320 front 1 ip 32 ax 160 bx 0 cx 80 dx 4 flag 0 errors 0",
+            (first, None),
+        ),
+        (
+            100,
+            "births 2 deaths 0 living 3 filled 400 front 2 ip 141 ax 319 bx 159 cx 1 dx 4 flag 0 errors 0",
+            (first, second),
+        ),
+        (
+            101,
+            "births 3 deaths 0 living 4 filled 480 front 3 ip 160 ax 0 bx 0 cx 0 dx 0 flag 0 errors 0",
+            (first, second),
+        ),
+    ];
+    for (quanta, line, efforts) in rows {
+        let world = run_ancestor(alloc, "", quanta)?;
+        assert_eq!(rt; line_of(alloc, &world)?.as_str(), line);
+        assert_eq!(rt; efforts_of(&world), efforts);
+    }
+    Ok(())
+}
+
+/// A soup file, how many quanta it runs, and what comes of it.
+const DEATHS: [(&str, u16, &str); 3] = [
+    // nobody else is left, and there is no room
+    (
+        r#"
+soup_size = 100
+mal_mult = 100
+[[creature]]
+at = 0
+code = "zero or1 shl shl shl shl shl shl shl mal"
+"#,
+        1,
+        "births 0 deaths 0 living 1 filled 10 front 1 ip 25 ax 0 bx 0 cx 128 dx 0 flag 0 errors 1",
+    ),
+    // the other creature dies
+    (
+        r#"
+soup_size = 100
+mal_mult = 100
+[[creature]]
+at = 0
+code = "zero or1 shl shl shl shl shl shl mal nop_0"
+[[creature]]
+at = 50
+code = "nop_1 nop_1 nop_1 nop_1 nop_1 nop_1 nop_1 nop_1 nop_1 nop_1"
+"#,
+        1,
+        "births 0 deaths 1 living 1 filled 74 front 1 ip 25 ax 10 bx 0 cx 64 dx 0 flag 0 errors 0",
+    ),
+    // half of the living die in quantum 2, and not the one that runs
+    (
+        r#"
+soup_size = 100
+dist_every = 2
+dist_percent = 50
+[[creature]]
+at = 0
+code = "inc_a"
+[[creature]]
+at = 10
+code = "inc_b"
+[[creature]]
+at = 20
+code = "inc_c"
+[[creature]]
+at = 30
+code = "dec_c"
+"#,
+        2,
+        "births 0 deaths 2 living 2 filled 2 front 4 ip 30 ax 0 bx 0 cx 0 dx 0 flag 0 errors 0",
+    ),
+];
+
+#[test]
+fn room_is_made_by_deaths(rt: HostRuntime) -> Result<(), Fail> {
+    let alloc = rt.alloc();
+    for (file, quanta, line) in DEATHS {
+        let world = run_file(alloc, file, quanta)?;
+        assert_eq!(rt; line_of(alloc, &world)?.as_str(), line);
+    }
+    Ok(())
+}
+
+/// Settings of the ancestor's run in a soup of 500 cells, how many quanta it runs, and what comes of it; the last number is
+/// that of the cells.
+const DRAWN: [(&str, u16, &str, u64); 8] = [
+    (
+        "flaw_rate = 1",
+        400,
+        "births 1 deaths 0 living 2 filled 191 front 1 ip 472 ax 5 bx 5 cx 6 dx 2 flag 0 errors 392",
+        38_447,
+    ),
+    (
+        "flaw_rate = 2",
+        400,
+        "births 1 deaths 1 living 1 filled 234 front 1 ip 447 ax 110 bx 14 cx 19393 dx 1 flag 0 errors 387",
+        61_932,
+    ),
+    (
+        "copy_rate = 1",
+        400,
+        "births 8 deaths 7 living 2 filled 320 front 1 ip 58 ax 258 bx 18 cx 61 dx 4 flag 0 errors 0",
+        796_292,
+    ),
+    (
+        "copy_rate = 2",
+        400,
+        "births 7 deaths 5 living 3 filled 400 front 8 ip 53 ax 181 bx 21 cx 58 dx 4 flag 0 errors 1",
+        623_735,
+    ),
+    (
+        "back_rate = 1",
+        150,
+        "births 1 deaths 1 living 1 filled 98 front 1 ip 231 ax 105 bx 4 cx 19 dx 0 flag 0 errors 15",
+        315_442,
+    ),
+    (
+        "back_rate = 2",
+        400,
+        "births 1 deaths 1 living 1 filled 288 front 1 ip 73 ax 0 bx 29 cx -1 dx 0 flag 0 errors 1559",
+        563_984,
+    ),
+    (
+        "back_rate = 2\ncopy_rate = 2\nflaw_rate = 2",
+        150,
+        "births 1 deaths 0 living 2 filled 305 front 2 ip 148 ax 160 bx 5 cx -2 dx -1 flag 0 errors 34",
+        173_116,
+    ),
+    // slices of three times the size, and a disturbance in each seventh quantum
+    (
+        "slice_by_size = true\nslice_num = 3\nslice_den = 1\ndist_every = 7\ndist_percent = 60",
+        300,
+        "births 56 deaths 55 living 2 filled 320 front 57 ip 136 ax 308 bx 148 cx 11 dx 4 flag 0 errors 0",
+        364_177,
+    ),
+];
+
+#[test]
+fn draws_change_a_run(rt: HostRuntime) -> Result<(), Fail> {
+    let alloc = rt.alloc();
+    for (settings, quanta, line, weight) in DRAWN {
+        let settings = format!(in alloc; "soup_size = 500\n{settings}")?;
+        let world = run_ancestor(alloc, settings.as_str(), quanta)?;
+        assert_eq!(rt; line_of(alloc, &world)?.as_str(), line);
+        assert_eq!(rt; weight_of(&world), weight);
+    }
+    Ok(())
+}
+
+/// Settings of the ancestor's run, and what 20,000 quanta come to.
+const FULL: [(&str, &str, u64); 2] = [
+    (
+        "soup_size = 500",
+        "births 579 deaths 578 living 2 filled 320 front 578 ip 132 ax 190 bx 110 cx 50 dx 4 flag 0 errors 0",
+        319_715,
+    ),
+    (
+        "soup_size = 500\nback_rate = 40\ncopy_rate = 50\nflaw_rate = 100",
+        "births 16 deaths 16 living 1 filled 320 front 3 ip 11 ax 6 bx 0 cx 2 dx 0 flag 0 errors 32821",
+        779_116,
+    ),
+];
+
+#[test]
+fn a_full_soup_goes_on(rt: HostRuntime) -> Result<(), Fail> {
+    let alloc = rt.alloc();
+    for (settings, line, weight) in FULL {
+        let world = run_ancestor(alloc, settings, 20_000)?;
+        assert_eq!(rt; line_of(alloc, &world)?.as_str(), line);
+        assert_eq!(rt; weight_of(&world), weight);
+    }
+    Ok(())
+}

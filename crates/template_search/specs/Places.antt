@@ -1,0 +1,10 @@
+-- The place that a search found.
+use Rattle.std.specs.Prelude.{ℕ}
+use Rattle.tierra_model.specs.declared.searching.Found.{Found}
+use Rattle.tierra_model.specs.declared.searching.Found.TheVariants.{At, NoMatch, Short}
+
+-- a fact of that place, if there is one
+abbrev pub IfAt : Found → (ℕ → Type 0) → Type 0
+IfAt (At place) P = P place
+IfAt Short P = Unit {0}
+IfAt NoMatch P = Unit {0}

@@ -1,0 +1,14 @@
+pub mod BirthNumbers
+pub mod Entries
+pub mod Ownership
+pub mod Tying
+pub mod Within
+pub mod EventWorlds
+pub mod FirstOther
+pub mod Numbered
+pub mod Cells
+pub mod Starting
+pub mod Registers
+pub mod Replaying
+pub mod Preparing
+pub mod NothingHappens

@@ -1,0 +1,23 @@
+use Rattle.std.proofs.Common.{◌≡◌, ◌∙◌, ap, rules, subst, sym}
+use Rattle.tierra_model.specs.Serial.{empty_world, start, with_inocula}
+use Rattle.tierra_model.specs.Setups.{SetupFields}
+use Rattle.tierra_model.specs.Sound.{IsSound}
+use Rattle.tierra_model.proofs.StartIsSound.{start-sound}
+use Rattle.world_core.proofs.world.World.start.Goals as goal
+use Rattle.world_core.proofs.world.World.start.Goals.{In_ok-inoculate_all}
+
+-- the creatures are those of the setup
+started : (c : In_ok-inoculate_all) → c.inoculate_all.new.running.world ≡ start c.args.setup.now
+unfolding start
+started c =
+    let creatures : c.deref.result.now ≡ c.setup.inside.creatures = search rules in
+    c.in_ok-inoculate_all.ensures ∙ (λ i. with_inocula (creatures i) (c.in_ok-running.ensures i))
+    ∙ ap (λ (s : SetupFields). with_inocula s.creatures (empty_world s.settings)) c.setup.view_is
+
+pub invariant_of-result : goal.invariant_of-result
+invariant_of-result c =
+    subst IsSound (sym (started ((goal.at.invariant_of-result c).In_ok-inoculate_all)))
+    (subst (λ (s : SetupFields). IsSound (start s)) c.setup.view_is (start-sound (record { settings = c.setup.inside.settings; creatures = c.setup.inside.creatures }) c.setup.invariant))
+
+pub returns : goal.returns
+returns c = started ((goal.at.returns c).In_ok-inoculate_all)

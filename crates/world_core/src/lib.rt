@@ -1,0 +1,16 @@
+//! The world of a run: what stands between two quanta, and what the events of a quantum do to it.
+#![tactic(auto)]
+
+mod genes;
+mod living;
+mod population;
+mod prepared;
+mod running;
+mod world;
+
+pub use prepared::Prepared;
+pub use running::Running;
+pub use world::World;
+
+#[cfg(test)]
+mod tests;

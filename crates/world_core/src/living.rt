@@ -1,0 +1,125 @@
+//! The living, in the order of their birth numbers.
+
+ghost use Rattle.std.specs.Prelude.{◌≡◌, ◌==◌, ◌+◌, ◌<◌, ◌≤◌, ℕ, [], ◌∷◌, ◌++◌, IfNone, IfSome, OnErr, OnOk, find, length, option_copied};
+ghost use Rattle.std.specs.List.{AllWithin, HoldsAt};
+ghost use Rattle.std.specs.List.Sorted.{IsNonDecreasingBy};
+ghost use Rattle.std.specs.VecDeque.{deque_len, deque_capacity};
+ghost use Rattle.tierra_model.specs.declared.creatures.Creature.{Creature};
+ghost use Rattle.tierra_model.specs.Counting.{times_in};
+ghost use Rattle.tierra_model.specs.Living.{ids_of, with_record, without};
+ghost use Rattle.tierra_model.specs.Sound.{Ordered};
+
+use std::alloc::Global;
+use std::collections::VecDeque;
+use std::marker::Model;
+use tierra_model::{Creature, OutOfMemory};
+
+/// The records of the living. A creature is found by its birth number, in steps that grow with the logarithm of how
+/// many live.
+#[derive(Drop)]
+pub(crate) struct Living {
+    creatures: VecDeque<Creature>,
+}
+
+impl Model for Living {
+    ghost use Rattle.std.specs.Prelude.{◌-◌};
+    ghost use Rattle.std.specs.VecDeque.{deque_len, deque_capacity};
+    ghost use Rattle.tierra_model.specs.Living.{ids_of};
+    ghost use Rattle.tierra_model.specs.Sound.{Ordered};
+    ghost use Rattle.world_core.specs.Living.{LivingFields};
+
+    ghost Value = { LivingFields };
+
+    ghost view = { λ l. record { creatures = l.creatures.items; spare = deque_capacity l.creatures - deque_len l.creatures } };
+
+    ghost invariant = { λ l. Ordered 1 (ids_of l.creatures.items) };
+}
+
+impl Living {
+    /// Nobody yet. It takes no memory.
+    pub(crate) fn new(alloc: Global) -> Living
+        ensures { result.creatures ≡ [] }
+    {
+        Living {
+            creatures: VecDeque::new(alloc),
+        }
+    }
+
+    /// Takes the memory that as many births may need.
+    pub(crate) fn reserve(&mut self, more: u32) -> Result<(), OutOfMemory>
+        ensures creatures { self.new.creatures ≡ self.old.creatures }
+        ensures ok { OnOk result (more ≤ self.new.spare) }
+        ensures err { OnErr result (self.old.spare < more) }
+        ensures room { self.old.spare ≤ self.new.spare }
+    {
+        self.creatures.reserve(more as usize)
+    }
+
+    /// The record of a creature, if it lives.
+    pub(crate) fn get(&self, id: u64) -> Option<&Creature>
+        ensures { option_copied result ≡ find (λ c. c.id == id) self.now.creatures }
+    {
+        let place = place_of(&self.creatures, id)?;
+        Some(&self.creatures[place])
+    }
+
+    /// Puts a record in the place of the one of its creature.
+    pub(crate) fn put(&mut self, creature: Creature)
+        requires { 0 < times_in (ids_of self.old.creatures) creature.id }
+        ensures creatures { self.new.creatures ≡ with_record creature self.old.creatures }
+        ensures room { self.new.spare ≡ self.old.spare }
+    {
+        match place_of(&self.creatures, creature.id) {
+            Some(place) => self.creatures[place] = creature,
+            None => unreachable!(),
+        }
+    }
+
+    /// Takes in a creature that was born after all others.
+    pub(crate) fn enter(&mut self, newborn: Creature)
+        requires number { 1 ≤ newborn.id }
+        requires last { (id : ℕ) → newborn.id ≤ id → times_in (ids_of self.old.creatures) id ≡ 0 }
+        requires room { 0 < self.old.spare }
+        ensures creatures { self.new.creatures ≡ self.old.creatures ++ newborn ∷ [] }
+        ensures room { self.old.spare ≡ self.new.spare + 1 }
+    {
+        self.creatures.push_back_reserved(newborn);
+    }
+
+    /// Takes a creature out, whose room is then free again.
+    pub(crate) fn remove(&mut self, id: u64)
+        requires { 0 < times_in (ids_of self.old.creatures) id }
+        ensures creatures { self.new.creatures ≡ without id self.old.creatures }
+        ensures room { self.new.spare ≡ self.old.spare + 1 }
+    {
+        match place_of(&self.creatures, id) {
+            Some(place) => {
+                self.creatures.remove(place);
+            }
+            None => unreachable!(),
+        }
+    }
+}
+
+// Where the creature stands, if it does.
+fn place_of(creatures: &VecDeque<Creature>, id: u64) -> Option<usize>
+    requires { Ordered 1 (ids_of creatures.now.items) }
+    ensures some { IfSome result (λ place. HoldsAt (λ c. c.id ≡ id) creatures.now.items place × (place < length creatures.now.items)) }
+    ensures none { IfNone result (times_in (ids_of creatures.now.items) id ≡ 0) }
+{
+    let place = born_before(creatures, id);
+    if place < creatures.len() && creatures[place].id == id {
+        Some(place)
+    } else {
+        None
+    }
+}
+
+// How many have lower birth numbers.
+fn born_before(creatures: &VecDeque<Creature>, id: u64) -> usize
+    requires { IsNonDecreasingBy (λ (c : Creature). c.id) creatures.now.items }
+    ensures before { AllWithin (λ c. c.id < id) creatures.now.items 0 result }
+    ensures behind { AllWithin (λ c. id ≤ c.id) creatures.now.items result (length creatures.now.items) }
+{
+    creatures.partition_point(|c| c.id < id)
+}
