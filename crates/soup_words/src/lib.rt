@@ -1,0 +1,13 @@
+//! The words of the command line.
+#![tactic(auto)]
+
+mod laws;
+mod number;
+mod order;
+mod split;
+
+pub use laws::words_are_clear;
+pub use order::{Action, Order, WordsFault, read_words};
+
+#[cfg(test)]
+mod tests;

@@ -1,0 +1,62 @@
+//! Numbers in decimal digits.
+
+ghost use Rattle.std.specs.Prelude.{◌≡◌, ◌<◌, ◌≤◌, ◌^◌, IfOk, IsErrOf, MatchOption, ℕ};
+ghost use Rattle.std.specs.Fmt.{decimal};
+ghost use Rattle.std.specs.Option.{option_copied};
+ghost use Rattle.soup_words.specs.Orders.{IsValue};
+
+use crate::order::WordsFault;
+use std::alloc::Global;
+use tierra_model::OutOfMemory;
+
+/// The number that an option's text spells, which lies in its range, or the default where there is no text. An option
+/// that is not allowed has none.
+pub(crate) fn value_of(
+    alloc: Global,
+    is_allowed: bool,
+    text: Option<&str>,
+    low: u64,
+    high: u64,
+    default: u64,
+) -> Result<u64, WordsFault>
+    ensures value { IfOk result (IsValue is_allowed (option_copied text.entry) low high default) }
+    ensures refused { IsErrOf result WordsFault.Refused → (n : ℕ) → IsValue is_allowed (option_copied text.entry) low high default n → ⊥ }
+{
+    let Some(text) = text else {
+        return Ok(default);
+    };
+    if !is_allowed {
+        return Err(WordsFault::Refused);
+    }
+    match number_from(alloc, text) {
+        Ok(Some(number)) => within(low, high, number),
+        Ok(None) => Err(WordsFault::Refused),
+        Err(_) => Err(WordsFault::OutOfMemory),
+    }
+}
+
+fn within(low: u64, high: u64, number: u64) -> Result<u64, WordsFault>
+    ensures value { IfOk result (λ n. (n ≡ number) × (low ≤ n) × (n ≤ high)) }
+    ensures refused { IsErrOf result WordsFault.Refused → low ≤ number → number ≤ high → ⊥ }
+    ensures memory { IsErrOf result WordsFault.OutOfMemory → ⊥ }
+{
+    if number < low || number > high {
+        return Err(WordsFault::Refused);
+    }
+    Ok(number)
+}
+
+/// The number that a text spells, without a sign or a leading zero.
+fn number_from(alloc: Global, text: &str) -> Result<Option<u64>, OutOfMemory>
+    ensures { IfOk result (λ found. MatchOption found ((n : ℕ) → n < 2 ^ 64 → text.now ≡ decimal n → ⊥) (λ n. (n < 2 ^ 64) × (text.now ≡ decimal n))) }
+{
+    let Ok(number) = text.parse::<u64>() else {
+        return Ok(None);
+    };
+    let spelled = format!(in alloc; "{number}")?;
+    if spelled.as_str() == text {
+        Ok(Some(number))
+    } else {
+        Ok(None)
+    }
+}
