@@ -1,5 +1,5 @@
 -- What is done after a step, act by act.
-use Rattle.std.proofs.Common.{◌≡◌, ◌⊎◌, inl, inr, ℕ, ◌<◌, ◌≤◌, refl, sym, ◌∙◌, ap, subst}
+use Rattle.std.proofs.Common.{◌≡◌, ◌⊎◌, inl, inr, ℕ, ◌≤◌, sym, ◌∙◌, ap, subst}
 use Rattle.std.specs.Prelude.{IsSome}
 use Rattle.tierra_model.specs.declared.creatures.Creature.{Creature}
 use Rattle.tierra_model.specs.declared.events.Act.{Act}
@@ -16,7 +16,7 @@ use Rattle.tierra_model.proofs.Shares.{Shares, shares-fits}
 use Rattle.world_core.specs.Running.{IsRunning}
 use Rattle.serial_slicer.specs.Turns.{InQuantum, IsTurn, SoleFields}
 use Rattle.serial_slicer.proofs.Fronts.{put-running, running-before}
-use Rattle.serial_slicer.proofs.Instructions.{AfterStep, CanBeDone, act_done}
+use Rattle.serial_slicer.proofs.Instructions.{AfterStep}
 use Rattle.serial_slicer.proofs.Quanta.{quantum-running}
 use Rattle.serial_slicer.proofs.Turns.{front-before}
 

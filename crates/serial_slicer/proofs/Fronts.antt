@@ -1,6 +1,6 @@
 -- The record of the creature at the front, put back as it is or as it has become.
-use Rattle.std.proofs.Common.{◌≡◌, ℕ, suc, ◌+◌, ◌<◌, ◌≤◌, ◌^◌, Bool, true, false, List, [], ◌∷◌, refl, sym, ◌∙◌, ap, subst, arith, length}
-use Rattle.std.specs.Prelude.{All, IfSome, Option, ◌==◌}
+use Rattle.std.proofs.Common.{◌≡◌, ℕ, suc, ◌+◌, ◌<◌, ◌≤◌, ◌^◌, true, List, [], ◌∷◌, refl, sym, ◌∙◌, ap, subst, arith, length}
+use Rattle.std.specs.Prelude.{All, IfSome}
 use Rattle.std.proofs.lemmas.Bool.Decides.{nat_tests}
 use Rattle.tierra_model.specs.declared.creatures.Creature.{Creature}
 use Rattle.tierra_model.specs.Counting.{one_if, times_in}
@@ -9,14 +9,14 @@ use Rattle.tierra_model.specs.Blocks.{is_in, is_in_daughter}
 use Rattle.tierra_model.specs.Living.{ids_of, one_of, with_record}
 use Rattle.tierra_model.specs.World.{World, first_of, front, put}
 use Rattle.tierra_model.specs.Sound.{IsPlaced, owners_of}
-use Rattle.tierra_model.proofs.Commutes.{HasFront, front-id, front-put, has_front-put, put-put, with_living}
-use Rattle.tierra_model.proofs.Each.{Each, all_from_each, each_from_all, each-with}
-use Rattle.tierra_model.proofs.EachOnce.{EachOnce, owners-put}
+use Rattle.tierra_model.proofs.Commutes.{HasFront, front-id, front-put, put-put, with_living}
+use Rattle.tierra_model.proofs.Each.{all_from_each, each_from_all, each-with}
+use Rattle.tierra_model.proofs.EachOnce.{owners-put}
 use Rattle.tierra_model.proofs.Living.{is_here, one_of-id}
-use Rattle.tierra_model.proofs.Owners.{ids_of-with, is_here-times, with_record-none}
+use Rattle.tierra_model.proofs.Owners.{ids_of-with, with_record-none}
 use Rattle.tierra_model.proofs.Shares.{Shares}
 use Rattle.world_core.specs.Running.{IsRunning}
-use Rattle.world_core.proofs.Within.{each_once, front_genotype, front_placed, front_small, has_front}
+use Rattle.world_core.proofs.Within.{front_genotype, front_placed, front_small, has_front}
 
 -- ---- put back as it is
 

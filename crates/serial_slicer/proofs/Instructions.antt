@@ -1,7 +1,6 @@
 -- What is left to do after a step, and what holds of the record and of the world then.
-use Rattle.std.proofs.Common.{◌≡◌, ℕ, ◌+◌, ◌<◌, ◌≤◌, ◌^◌, Bool, true, List, refl, sym, ◌∙◌, ap, subst, arith, length}
-use Rattle.std.specs.Prelude.{IsSome, Option, slice_index, slice_set, ◌||◌}
-use Rattle.tierra_model.specs.declared.creatures.Block.{Block}
+use Rattle.std.proofs.Common.{◌≡◌, ℕ, ◌+◌, ◌<◌, ◌≤◌, ◌^◌, refl, sym, ◌∙◌, ap, subst, arith, length}
+use Rattle.std.specs.Prelude.{IsSome, slice_index, slice_set, ◌||◌}
 use Rattle.tierra_model.specs.declared.creatures.Creature.{Creature}
 use Rattle.tierra_model.specs.declared.events.Act.{Act}
 use Rattle.tierra_model.specs.declared.events.Act.TheVariants as act

@@ -1,10 +1,9 @@
 -- Which block can be taken, who can die, and what that leaves.
-use Rattle.std.proofs.Common.{◌≡◌, ℕ, zero, suc, ◌+◌, ◌-◌, ◌<◌, ◌≤◌, Bool, List, [], ◌∷◌, refl, sym, ◌∙◌, ap, arith, length}
-use Rattle.std.specs.Prelude.{None, Option, Some, is_some, ◌==◌}
+use Rattle.std.proofs.Common.{◌≡◌, ℕ, zero, suc, ◌+◌, ◌≤◌, List, [], ◌∷◌, refl, sym, ◌∙◌, ap, arith, length}
+use Rattle.std.specs.Prelude.{None, Option, Some, is_some}
 use Rattle.std.proofs.lemmas.Bool.Decides.{nat_tests}
 use Rattle.tierra_model.specs.declared.creatures.Block.{Block}
 use Rattle.tierra_model.specs.declared.creatures.Creature.{Creature}
-use Rattle.tierra_model.specs.declared.events.Event.{Event}
 use Rattle.tierra_model.specs.declared.events.Event.TheVariants as event
 use Rattle.tierra_model.specs.declared.parameters.Settings.{Settings}
 use Rattle.tierra_model.specs.Counting.{times_in}

@@ -1,5 +1,5 @@
 -- A serial run, quantum after quantum.
-use Rattle.std.proofs.Common.{◌≡◌, ℕ, suc, add-one, ◌+◌, ◌<◌, ◌≤◌, refl, sym, ◌∙◌, ap, subst, arith}
+use Rattle.std.proofs.Common.{◌≡◌, ℕ, add-one, ◌+◌, ◌≤◌, sym, ◌∙◌, ap, subst}
 use Rattle.tierra_model.specs.declared.parameters.Settings.{Settings}
 use Rattle.tierra_model.specs.Laws.{IsSerialRun}
 use Rattle.tierra_model.specs.Quantum.{quantum}

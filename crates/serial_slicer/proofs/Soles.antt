@@ -1,5 +1,5 @@
 -- All cells of a world stay ready through what happens in it.
-use Rattle.std.proofs.Common.{◌≡◌, ℕ, List, refl, sym, ◌∙◌, ap, subst, length}
+use Rattle.std.proofs.Common.{◌≡◌, ℕ, List, refl, sym, ◌∙◌, ap, length}
 use Rattle.std.specs.Prelude.{Option, slice_set}
 use Rattle.std.proofs.lemmas.List.{length-set}
 use Rattle.tierra_model.specs.declared.creatures.Block.{Block}
@@ -10,7 +10,7 @@ use Rattle.tierra_model.specs.declared.parameters.Settings.{Settings}
 use Rattle.tierra_model.specs.Events.{apply_event, turn_end}
 use Rattle.tierra_model.specs.World.{World, put}
 use Rattle.tierra_model.proofs.EventEffects.{settings-event, soup-event, soup_after}
-use Rattle.world_core.specs.Running.{KeepsReady, WorldFields, can_be_set}
+use Rattle.world_core.specs.Running.{KeepsReady, WorldFields}
 use Rattle.serial_slicer.specs.Turns.{IsSole, SoleFields}
 
 sole-kept : (h k : WorldFields) → IsSole h → KeepsReady h k → k.world.settings ≡ h.world.settings → length k.world.soup ≡ length h.world.soup → IsSole k

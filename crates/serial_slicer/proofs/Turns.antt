@@ -1,10 +1,10 @@
 -- A turn begins, and is given back.
-use Rattle.std.proofs.Common.{◌≡◌, ℕ, ◌+◌, ◌*◌, ◌/◌, ◌<◌, ◌≤◌, Bool, true, false, refl, sym, ◌∙◌, ap, subst, arith}
+use Rattle.std.proofs.Common.{ℕ, ◌*◌, ◌/◌, ◌≤◌, Bool, true, false, refl, sym, ◌∙◌, arith}
 use Rattle.std.specs.Prelude.{if◌then◌else◌, max, min}
 use Rattle.tierra_model.specs.declared.creatures.Creature.{Creature}
 use Rattle.tierra_model.specs.declared.parameters.Settings.{Settings}
 use Rattle.tierra_model.specs.Quantum.{slice_of}
-use Rattle.tierra_model.specs.World.{World, first_of, front, put}
+use Rattle.tierra_model.specs.World.{World, first_of, put}
 use Rattle.tierra_model.proofs.Commutes.{HasFront}
 use Rattle.tierra_model.proofs.Living.{is_here-with}
 use Rattle.tierra_model.proofs.Shares.{Shares}

@@ -5,9 +5,8 @@ mod mal;
 mod slice;
 mod sole;
 
-ghost use Rattle.std.specs.Prelude.{◌≡◌, ◌<◌, ◌≤◌, IfOk, OnOk};
+ghost use Rattle.std.specs.Prelude.{◌≡◌, ◌<◌, ◌≤◌, IfOk};
 ghost use Rattle.tierra_model.specs.Serial.{serial};
-ghost use Rattle.tierra_model.specs.Sound.{IsSound};
 
 use crate::slice::run_quantum;
 use crate::sole::Sole;

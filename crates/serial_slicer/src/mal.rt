@@ -1,8 +1,7 @@
 //! Room for a daughter, and the deaths that make it.
 
 ghost use Rattle.std.specs.Prelude.{◌≡◌, ◌≤◌, None, OnOk, Some};
-ghost use Rattle.tierra_model.specs.declared.events.Act.TheVariants as act;
-ghost use Rattle.tierra_model.specs.Quantum.{give_up, make_room, mal, perform, reap, take_block, world_machine};
+ghost use Rattle.tierra_model.specs.Quantum.{give_up, make_room, mal, reap, take_block, world_machine};
 ghost use Rattle.tierra_model.specs.Queue.{number_of_others};
 ghost use Rattle.tierra_model.specs.Room.{is_owned, room_for};
 ghost use Rattle.tierra_model.specs.World.{front};

@@ -1,6 +1,6 @@
 //! One quantum.
 
-ghost use Rattle.std.specs.Prelude.{◌≡◌, ◌+◌, ◌<◌, ◌^◌, OnOk, IsSome, ◌≤◌, ℕ};
+ghost use Rattle.std.specs.Prelude.{◌≡◌, ◌+◌, ◌<◌, ◌^◌, OnOk, IsSome, ◌≤◌};
 ghost use Rattle.tierra_model.specs.declared.events.Act.TheVariants as act;
 ghost use Rattle.tierra_model.specs.Draw.{word};
 ghost use Rattle.tierra_model.specs.Quantum.{disturb, instruction, is_disturbed, perform, quantum, reap_times, world_machine};

@@ -1,19 +1,17 @@
 //! A world of which nobody has a version.
 
-ghost use Rattle.std.specs.Prelude.{◌≡◌, ◌<◌, ◌^◌, ◌≤◌, IfOk, IfSome, IsSome, OnOk, ℕ, length, slice_index, true};
-ghost use Rattle.std.specs.Option.{ForSome};
-ghost use Rattle.tierra_model.specs.declared.events.Act.TheVariants as act;
+ghost use Rattle.std.specs.Prelude.{◌≡◌, ◌<◌, ◌^◌, ◌≤◌, IfOk, IsSome, OnOk, length, slice_index};
 ghost use Rattle.tierra_model.specs.declared.events.Event.TheVariants as event;
 ghost use Rattle.tierra_model.specs.Draw.{back_flip, word};
 ghost use Rattle.tierra_model.specs.Events.{apply_event, turn_end as turn_end_of};
-ghost use Rattle.tierra_model.specs.Quantum.{flip, perform, world_machine};
+ghost use Rattle.tierra_model.specs.Quantum.{flip, world_machine};
 ghost use Rattle.tierra_model.specs.Queue.{place_of_first_other};
 ghost use Rattle.tierra_model.specs.Replay.{CanHappen, RecordFits};
 ghost use Rattle.tierra_model.specs.Room.{is_owned, room_for};
 ghost use Rattle.tierra_model.specs.World.{front, put};
 ghost use Rattle.mutation_streams.specs.Draws.{draws_of};
-ghost use Rattle.world_core.specs.Running.{IsRunning, can_be_set};
-ghost use Rattle.serial_slicer.specs.Turns.{InQuantum, IsTurn};
+ghost use Rattle.world_core.specs.Running.{IsRunning};
+ghost use Rattle.serial_slicer.specs.Turns.{IsTurn};
 
 use mutation_streams::Draws;
 use std::alloc::Global;

@@ -1,8 +1,7 @@
-use Rattle.std.proofs.Common.{◌≡◌, ◌+◌, ◌<◌, ◌≤◌, sym, ◌∙◌, ap, subst, arith}
-use Rattle.tierra_model.specs.Serial.{serial, start}
+use Rattle.std.proofs.Common.{◌≡◌, sym, ◌∙◌, ap, subst, arith}
+use Rattle.tierra_model.specs.Serial.{serial}
 use Rattle.tierra_model.specs.Setups.{IsSetup, SetupFields}
 use Rattle.tierra_model.specs.Sound.{IsSound}
-use Rattle.tierra_model.specs.World.{World}
 use Rattle.world_core.specs.Running.{WorldFields}
 use Rattle.serial_slicer.proofs.Serials.{goes_on, sound_at, starts}
 use Rattle.serial_slicer.proofs.counted.Goals as goal

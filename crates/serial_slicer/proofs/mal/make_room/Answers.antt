@@ -1,11 +1,6 @@
-use Rattle.std.proofs.Common.{◌≡◌, ◌+◌, ◌-◌, ◌<◌, ◌≤◌, ℕ, zero, suc, refl, sym, ◌∙◌, ap, subst, arith}
-use Rattle.std.specs.Prelude.{None, OnOk, Some}
+use Rattle.std.proofs.Common.{◌≡◌, ◌+◌, ◌-◌, ℕ, refl, sym, ◌∙◌, ap, subst, arith}
 use Rattle.std.proofs.lemmas.Result.{on_ok_weaker}
-use Rattle.tierra_model.specs.declared.creatures.Creature.{Creature}
-use Rattle.tierra_model.specs.declared.events.Event.TheVariants as event
-use Rattle.tierra_model.specs.Events.{apply_event}
 use Rattle.tierra_model.specs.Quantum.{make_room, world_machine}
-use Rattle.tierra_model.specs.World.{World, front}
 use Rattle.serial_slicer.proofs.Quanta.{quantum-running}
 use Rattle.serial_slicer.proofs.Rooms.{StillRuns, no_room, others-running, others_of, room_left, room_none, room_taken, still-reap}
 use Rattle.serial_slicer.proofs.mal.make_room.Goals as goal

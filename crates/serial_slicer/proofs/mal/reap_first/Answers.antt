@@ -1,4 +1,4 @@
-use Rattle.std.proofs.Common.{◌≡◌, sym, ◌∙◌}
+use Rattle.std.proofs.Common.{sym, ◌∙◌}
 use Rattle.serial_slicer.proofs.Quanta.{quantum-running}
 use Rattle.serial_slicer.proofs.Rooms.{can-reap}
 use Rattle.serial_slicer.proofs.mal.reap_first.Goals as goal

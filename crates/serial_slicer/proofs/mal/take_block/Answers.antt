@@ -1,6 +1,5 @@
-use Rattle.std.proofs.Common.{◌≡◌, refl, sym, subst}
+use Rattle.std.proofs.Common.{refl, sym, subst}
 use Rattle.tierra_model.specs.declared.events.Event.TheVariants as event
-use Rattle.tierra_model.specs.World.{World}
 use Rattle.world_core.specs.Running.{IsRunning}
 use Rattle.serial_slicer.proofs.Quanta.{quantum-event, quantum-running}
 use Rattle.serial_slicer.proofs.Rooms.{can-take}

@@ -1,8 +1,6 @@
-use Rattle.std.proofs.Common.{◌≡◌, ◌+◌, ◌≤◌, refl, sym, ◌∙◌, ap, subst}
+use Rattle.std.proofs.Common.{◌+◌, ◌≤◌, sym, subst}
 use Rattle.std.specs.Prelude.{IsSome}
 use Rattle.tierra_model.specs.declared.creatures.Creature.{Creature}
-use Rattle.tierra_model.specs.World.{World, front, put}
-use Rattle.tierra_model.proofs.Commutes.{front-put, front-id}
 use Rattle.world_core.specs.Running.{IsRunning}
 use Rattle.serial_slicer.specs.Turns.{InQuantum}
 use Rattle.serial_slicer.proofs.Acts.{put_front, divide_can, divide_put_in, divide_world, done_turn, done_world, erred_running, erred_turn, erred_world, mal_put_in, mal_size, mal_world, taken_out}

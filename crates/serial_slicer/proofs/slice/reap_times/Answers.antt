@@ -1,6 +1,5 @@
-use Rattle.std.proofs.Common.{◌≡◌, ◌+◌, ◌-◌, ◌<◌, sym, ◌∙◌, ap, subst, arith, suc}
+use Rattle.std.proofs.Common.{◌+◌, ◌-◌, sym, ◌∙◌, ap, subst, arith}
 use Rattle.tierra_model.specs.Quantum.{reap_times, world_machine}
-use Rattle.tierra_model.specs.World.{World}
 use Rattle.serial_slicer.proofs.Quanta.{quantum-running}
 use Rattle.serial_slicer.proofs.Rooms.{StillRuns, can-reap, reap_times-some, still-reaped}
 use Rattle.serial_slicer.proofs.slice.reap_times.Goals as goal

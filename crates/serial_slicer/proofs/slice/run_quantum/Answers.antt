@@ -1,9 +1,7 @@
-use Rattle.std.proofs.Common.{◌≡◌, ◌+◌, ◌<◌, ◌≤◌, refl, sym, ◌∙◌, ap, subst, arith}
-use Rattle.tierra_model.specs.Quantum.{run, slice_of, world_machine}
-use Rattle.tierra_model.specs.World.{World, front, put}
+use Rattle.std.proofs.Common.{◌≡◌, ◌+◌, ◌≤◌, sym, ◌∙◌, ap, subst, arith}
+use Rattle.tierra_model.specs.Quantum.{slice_of}
 use Rattle.tierra_model.specs.declared.creatures.Creature.{Creature}
 use Rattle.mutation_streams.specs.Draws.{draws_of}
-use Rattle.world_core.specs.Running.{IsRunning}
 use Rattle.serial_slicer.proofs.Quanta.{quantum-running, sound-in_quantum}
 use Rattle.serial_slicer.proofs.Slices.{after_flip, counts_then, fits_then, none_run, quantum_is, quantum_then, running_before, running_run, settings_then, taken, then_next, within_then}
 use Rattle.serial_slicer.proofs.Turns.{slice_few}
