@@ -1,4 +1,4 @@
-mod Births
+pub mod Births
 mod Digits
 mod Ranks
 mod ReadBack

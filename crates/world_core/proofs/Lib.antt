@@ -12,3 +12,8 @@ pub mod Registers
 pub mod Replaying
 pub mod Preparing
 pub mod NothingHappens
+pub mod Grouped
+pub mod GroupsInRange
+pub mod Runs
+pub mod SlicerLength
+pub mod BytesGrow

@@ -5,3 +5,5 @@ pub mod Running
 pub mod Tied
 pub mod Starting
 pub mod Prepared
+pub mod Groups
+pub mod StateBytes

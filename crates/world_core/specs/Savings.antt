@@ -1,5 +1,6 @@
 -- The genotypes with what was saved of them.
-use Rattle.std.specs.Prelude.{List, map, ℕ}
+use Rattle.std.specs.Prelude.{List, None, length, map, slice_index_or, ℕ, ◌<◌, ◌≡◌, ◌≢◌}
+use Rattle.std.specs.List.{AllWithin}
 use Rattle.tierra_model.specs.World.{Genotype, Saving as ModelSaving}
 use Rattle.world_core.specs.declared.genes.Saving.{Saving}
 
@@ -14,3 +15,18 @@ saving_of s = record { genotype = s.genotype; quantum = s.quantum; first_effort 
 
 abbrev pub savings_of : List Saving → List ModelSaving
 savings_of saved = map saving_of saved
+
+abbrev pub no_saving : Saving
+no_saving = record { genotype = 0; quantum = 0; first_effort = None; second_effort = None }
+
+-- the quantum of the first, and of all where they are of one
+abbrev pub quantum_of : List Saving → ℕ
+quantum_of saved = (slice_index_or saved 0 no_saving).quantum
+
+-- those from a place up to another are of the quantum of the first of them
+abbrev pub AreOf : List Saving → ℕ → ℕ → Type 0
+AreOf saved at end = AllWithin (λ s. s.quantum ≡ (slice_index_or saved at no_saving).quantum) saved at end
+
+-- who comes next is of another quantum
+abbrev pub BeginsAnew : List Saving → ℕ → ℕ → Type 0
+BeginsAnew saved at end = end < length saved → (slice_index_or saved end no_saving).quantum ≢ (slice_index_or saved at no_saving).quantum

@@ -3,6 +3,7 @@
 ghost use Rattle.std.specs.Prelude.{◌≡◌, ◌+◌, ◌<◌, ◌≤◌, ◌^◌, [], All, OnOk, length};
 ghost use Rattle.tierra_model.specs.Individuals.{savings_after, with_effort_of, with_individual};
 ghost use Rattle.tierra_model.specs.Ranges.{IsCode};
+ghost use Rattle.world_core.specs.Savings.{savings_of};
 
 use genotyper::Genotypes;
 use std::alloc::Global;
@@ -65,6 +66,12 @@ impl Genes {
         ensures { result.now.genotypes ≡ self.now.genotypes }
     {
         &self.genotypes
+    }
+
+    pub(crate) fn savings(&self) -> &[Saving]
+        ensures { savings_of result.now ≡ self.now.saved }
+    {
+        &self.saved
     }
 
     /// How many genotypes were saved.

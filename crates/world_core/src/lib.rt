@@ -2,10 +2,12 @@
 #![tactic(auto)]
 
 mod genes;
+mod groups;
 mod living;
 mod population;
 mod prepared;
 mod running;
+mod state;
 mod world;
 
 pub use prepared::Prepared;

@@ -1,6 +1,6 @@
 //! The living and their two queues.
 
-ghost use Rattle.std.specs.Prelude.{◌≡◌, ◌==◌, ◌+◌, ◌<◌, ◌≤◌, ◌^◌, ℕ, [], ◌∷◌, ◌++◌, OnOk, filter, find, length, not, option_copied, option_map, slice_get, slice_index};
+ghost use Rattle.std.specs.Prelude.{◌≡◌, ◌==◌, ◌+◌, ◌<◌, ◌≤◌, ◌^◌, ℕ, [], ◌∷◌, ◌++◌, OnOk, filter, find, length, not, option_copied, slice_get, slice_index};
 ghost use Rattle.tierra_model.specs.Counting.{times_in};
 ghost use Rattle.tierra_model.specs.Living.{ids_of, one_of, with_record, without};
 ghost use Rattle.tierra_model.specs.Queue.{error_move, good_move, place_of_first_other, rotation};
@@ -100,6 +100,14 @@ impl Population {
         ensures { result ≡ length self.now.reaper }
     {
         self.reaper.len()
+    }
+
+    pub(crate) fn reaper_at(&self, place: u32) -> u64
+        requires { place < length self.now.reaper }
+        ensures { result ≡ slice_index self.now.reaper place }
+    {
+        let (id, _) = self.reaper.at(place);
+        id
     }
 
     /// The creature at a place of the reaper queue.

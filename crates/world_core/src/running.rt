@@ -146,6 +146,20 @@ impl Running {
         self.deaths
     }
 
+    pub(crate) fn next_birth(&self) -> u64
+        ensures { result ≡ self.now.world.next_birth }
+    {
+        self.next_birth
+    }
+
+    /// The birth number at a place of the reaper queue.
+    pub(crate) fn reaper_at(&self, place: u32) -> u64
+        requires { place < length self.now.world.reaper }
+        ensures { result ≡ slice_index self.now.world.reaper place }
+    {
+        self.population.reaper_at(place)
+    }
+
     /// The record of a creature, if it lives.
     pub fn creature(&self, id: u64) -> Option<&Creature>
         ensures { option_copied result ≡ find (λ c. c.id == id) self.now.world.living }
@@ -174,6 +188,13 @@ impl Running {
         ensures { result.now.genotypes ≡ self.now.world.genotypes }
     {
         self.genes.genotypes()
+    }
+
+    pub(crate) fn genes(&self) -> &Genes
+        ensures genotypes { result.now.genotypes ≡ self.now.world.genotypes }
+        ensures saved { result.now.saved ≡ self.now.world.saved }
+    {
+        &self.genes
     }
 
     /// How many of each genotype live.

@@ -1,6 +1,6 @@
 //! The world between two quanta.
 
-ghost use Rattle.std.specs.Prelude.{◌≡◌, ◌==◌, ◌<◌, ◌≤◌, ℕ, IfOk, OnOk, find, length, option_copied, option_map, slice_get};
+ghost use Rattle.std.specs.Prelude.{◌≡◌, ◌==◌, ◌<◌, ℕ, IfOk, OnOk, find, length, option_copied, option_map, slice_get};
 ghost use Rattle.tierra_model.specs.Living.{one_of};
 ghost use Rattle.tierra_model.specs.Room.{filled, is_owned};
 ghost use Rattle.tierra_model.specs.Serial.{empty_world, start, with_inocula};
@@ -8,7 +8,7 @@ ghost use Rattle.tierra_model.specs.Setups.{IsSetup};
 ghost use Rattle.tierra_model.specs.Sound.{IsSound};
 ghost use Rattle.tierra_model.specs.World.{genotype_at};
 ghost use Rattle.census.specs.Census.{living_of};
-ghost use Rattle.world_core.specs.Running.{KeepsReady, number_with};
+ghost use Rattle.world_core.specs.Running.{number_with};
 
 use crate::running::Running;
 use census::Census;
@@ -218,7 +218,7 @@ fn inoculate_all(
 }
 
 // A code of its own.
-fn copied(alloc: Global, code: &Code) -> Result<Code, OutOfMemory>
+pub(crate) fn copied(alloc: Global, code: &Code) -> Result<Code, OutOfMemory>
     ensures { IfOk result (λ copy. copy ≡ code.now) }
 {
     let items = code.items.to_vec(alloc)?;

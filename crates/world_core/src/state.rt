@@ -1,0 +1,349 @@
+//! All that a world is but its settings, as bytes.
+
+ghost use Rattle.std.specs.Prelude.{◌≡◌, ◌++◌, ◌<◌, ◌^◌, All, IfOk, IfSome, OnOk, length, map};
+ghost use Rattle.std.specs.List.{flat_map};
+ghost use Rattle.tierra_model.specs.Living.{one_of};
+ghost use Rattle.tierra_model.specs.Ranges.{IsCode};
+ghost use Rattle.tierra_model.specs.Sound.{IsSound, ParentsBelow};
+ghost use Rattle.tierra_model.specs.World.{genotype_at};
+ghost use Rattle.world_core.specs.Savings.{saving_of, savings_of};
+ghost use Rattle.world_core.specs.StateBytes.{block_bytes, body_bytes, count_bytes, counts_bytes, creature_bytes, daughter_bytes, effort_bytes, eight, four, genotype_bytes, genotypes_bytes, living_bytes, parent_bytes, processor_bytes, reaper_bytes, register_bytes, registers_bytes, saving_bytes, savings_bytes, soup_bytes, stack_bytes, state_bytes};
+
+use crate::genes::Saving;
+use crate::running::Running;
+use crate::world::World;
+use genotyper::Genotypes;
+use std::alloc::Global;
+use tierra_model::{Block, Code, Creature, Effort, OutOfMemory};
+
+impl World {
+    /// All that the world is but its settings, as bytes.
+    pub fn state_bytes(&self, alloc: Global) -> Result<Code, OutOfMemory>
+        ensures { IfOk result (λ code. code ≡ state_bytes self.now.world) }
+    {
+        let mut items = Vec::new(alloc);
+        push_state(&mut items, &self.running)?;
+        Ok(Code { items })
+    }
+}
+
+#[tactic(auto, unfolding(crate::specs::StateBytes::state_bytes))]
+fn push_state(out: &mut Vec<u8>, running: &Running) -> Result<(), OutOfMemory>
+    requires { IsSound running.now.world }
+    ensures { OnOk result (out.new.items ≡ out.old.items ++ state_bytes running.now.world) }
+{
+    push_soup(out, running)?;
+    push_counts(out, running)?;
+    push_living(out, running)?;
+    push_reaper(out, running)?;
+    push_genotypes(out, running)?;
+    push_savings(out, running)
+}
+
+// ---- the soup and the counts
+
+#[tactic(auto, unfolding(crate::specs::StateBytes::soup_bytes))]
+fn push_soup(out: &mut Vec<u8>, running: &Running) -> Result<(), OutOfMemory>
+    requires { length running.now.world.soup ≡ running.now.world.settings.soup_size }
+    ensures { OnOk result (out.new.items ≡ out.old.items ++ soup_bytes running.now.world) }
+{
+    let size = running.settings().soup_size;
+    push_four(out, size)?;
+    push_cells(out, running, size)
+}
+
+fn push_cells(out: &mut Vec<u8>, running: &Running, size: u32) -> Result<(), OutOfMemory>
+    requires { length running.now.world.soup ≡ size }
+    ensures { OnOk result (out.new.items ≡ out.old.items ++ running.now.world.soup) }
+{
+    for at in 0..size {
+        out.push(running.cell(at))?;
+    }
+    Ok(())
+}
+
+#[tactic(auto, unfolding(crate::specs::StateBytes::counts_bytes))]
+fn push_counts(out: &mut Vec<u8>, running: &Running) -> Result<(), OutOfMemory>
+    ensures { OnOk result (out.new.items ≡ out.old.items ++ counts_bytes running.now.world) }
+{
+    push_two_pairs(
+        out,
+        running.quanta(),
+        running.births(),
+        running.deaths(),
+        running.next_birth(),
+    )
+}
+
+// ---- the living
+
+#[tactic(auto, unfolding(crate::specs::StateBytes::living_bytes))]
+fn push_living(out: &mut Vec<u8>, running: &Running) -> Result<(), OutOfMemory>
+    requires { IsSound running.now.world }
+    ensures { OnOk result (out.new.items ≡ out.old.items ++ living_bytes running.now.world) }
+{
+    let count = running.reaper_len();
+    push_four(out, count)?;
+    push_creatures(out, running, count)
+}
+
+fn push_creatures(out: &mut Vec<u8>, running: &Running, count: u32) -> Result<(), OutOfMemory>
+    requires sound { IsSound running.now.world }
+    requires count { length running.now.world.slicer ≡ count }
+    ensures { OnOk result (out.new.items ≡ out.old.items ++ flat_map creature_bytes (map (one_of running.now.world.living) running.now.world.slicer)) }
+{
+    for k in 0..count {
+        match running.place(k) {
+            Some(creature) => push_creature(out, creature)?,
+            None => unreachable!(),
+        }
+    }
+    Ok(())
+}
+
+#[tactic(auto, unfolding(crate::specs::StateBytes::creature_bytes))]
+fn push_creature(out: &mut Vec<u8>, creature: &Creature) -> Result<(), OutOfMemory>
+    ensures { OnOk result (out.new.items ≡ out.old.items ++ creature_bytes creature.now) }
+{
+    push_body(out, creature)?;
+    push_processor(out, creature)?;
+    push_creature_counts(out, creature)
+}
+
+#[tactic(auto, unfolding(crate::specs::StateBytes::body_bytes))]
+fn push_body(out: &mut Vec<u8>, creature: &Creature) -> Result<(), OutOfMemory>
+    ensures { OnOk result (out.new.items ≡ out.old.items ++ body_bytes creature.now) }
+{
+    push_eight(out, creature.id)?;
+    push_block(out, creature.own)?;
+    push_daughter(out, creature.daughter)?;
+    push_eight(out, creature.moved)
+}
+
+#[tactic(auto, unfolding(crate::specs::StateBytes::processor_bytes))]
+fn push_processor(out: &mut Vec<u8>, creature: &Creature) -> Result<(), OutOfMemory>
+    ensures { OnOk result (out.new.items ≡ out.old.items ++ processor_bytes creature.now) }
+{
+    push_registers(out, creature)?;
+    push_four(out, creature.ip)?;
+    push_stack(out, creature)
+}
+
+#[tactic(auto, unfolding(crate::specs::StateBytes::registers_bytes))]
+fn push_registers(out: &mut Vec<u8>, creature: &Creature) -> Result<(), OutOfMemory>
+    ensures { OnOk result (out.new.items ≡ out.old.items ++ registers_bytes creature.now) }
+{
+    push_two_registers(out, creature.ax, creature.bx)?;
+    push_two_registers(out, creature.cx, creature.dx)
+}
+
+#[tactic(auto, unfolding(crate::specs::StateBytes::stack_bytes))]
+fn push_stack(out: &mut Vec<u8>, creature: &Creature) -> Result<(), OutOfMemory>
+    ensures { OnOk result (out.new.items ≡ out.old.items ++ stack_bytes creature.now) }
+{
+    push_words(out, &creature.stack)?;
+    push_four(out, creature.sp)?;
+    out.push(creature.flag)?;
+    Ok(())
+}
+
+#[tactic(auto, unfolding(crate::specs::StateBytes::count_bytes))]
+fn push_creature_counts(out: &mut Vec<u8>, creature: &Creature) -> Result<(), OutOfMemory>
+    ensures { OnOk result (out.new.items ≡ out.old.items ++ count_bytes creature.now) }
+{
+    push_eight(out, creature.errors)?;
+    push_eight(out, creature.genotype)?;
+    push_eight(out, creature.ran)?;
+    push_eight(out, creature.bred)
+}
+
+fn push_words(out: &mut Vec<u8>, words: &[i32]) -> Result<(), OutOfMemory>
+    ensures { OnOk result (out.new.items ≡ out.old.items ++ flat_map register_bytes words.now) }
+{
+    for word in words {
+        push_register(out, *word)?;
+    }
+    Ok(())
+}
+
+#[tactic(auto, unfolding(crate::specs::StateBytes::block_bytes))]
+fn push_block(out: &mut Vec<u8>, block: Block) -> Result<(), OutOfMemory>
+    ensures { OnOk result (out.new.items ≡ out.old.items ++ block_bytes block) }
+{
+    push_four(out, block.at)?;
+    push_four(out, block.size)
+}
+
+#[tactic(auto, unfolding(crate::specs::StateBytes::daughter_bytes))]
+fn push_daughter(out: &mut Vec<u8>, daughter: Option<Block>) -> Result<(), OutOfMemory>
+    ensures { OnOk result (out.new.items ≡ out.old.items ++ daughter_bytes daughter) }
+{
+    match daughter {
+        Some(block) => push_fours(out, block.at, block.size),
+        None => push_fours(out, 0, 0),
+    }
+}
+
+#[tactic(auto, unfolding(crate::specs::StateBytes::reaper_bytes))]
+fn push_reaper(out: &mut Vec<u8>, running: &Running) -> Result<(), OutOfMemory>
+    requires { IsSound running.now.world }
+    ensures { OnOk result (out.new.items ≡ out.old.items ++ reaper_bytes running.now.world) }
+{
+    for place in 0..running.reaper_len() {
+        push_eight(out, running.reaper_at(place))?;
+    }
+    Ok(())
+}
+
+// ---- the genotypes and the savings
+
+#[tactic(auto, unfolding(crate::specs::StateBytes::genotypes_bytes))]
+fn push_genotypes(out: &mut Vec<u8>, running: &Running) -> Result<(), OutOfMemory>
+    requires { IsSound running.now.world }
+    ensures { OnOk result (out.new.items ≡ out.old.items ++ genotypes_bytes running.now.world) }
+{
+    let genotypes = running.genotypes();
+    push_eight(out, genotypes.len())?;
+    push_each_genotype(out, genotypes)
+}
+
+fn push_each_genotype(out: &mut Vec<u8>, genotypes: &Genotypes) -> Result<(), OutOfMemory>
+    requires written { All (λ g. IsCode g.code) genotypes.now.genotypes }
+    requires parents { ParentsBelow 0 genotypes.now.genotypes }
+    requires few { length genotypes.now.genotypes < 2 ^ 60 }
+    ensures { OnOk result (out.new.items ≡ out.old.items ++ flat_map genotype_bytes genotypes.now.genotypes) }
+{
+    for number in 0..genotypes.len() {
+        push_genotype(out, genotypes, number)?;
+    }
+    Ok(())
+}
+
+#[tactic(auto, unfolding(crate::specs::StateBytes::genotype_bytes))]
+fn push_genotype(out: &mut Vec<u8>, genotypes: &Genotypes, number: u64) -> Result<(), OutOfMemory>
+    requires known { number < length genotypes.now.genotypes }
+    requires short { length (genotype_at genotypes.now.genotypes number).code < 2 ^ 32 }
+    requires parent { IfSome (genotype_at genotypes.now.genotypes number).parent (λ p. p < 2 ^ 60) }
+    ensures { OnOk result (out.new.items ≡ out.old.items ++ genotype_bytes (genotype_at genotypes.now.genotypes number)) }
+{
+    push_code(out, genotypes.code_of(number))?;
+    push_parent(out, genotypes.parent_of(number))?;
+    push_eight(out, genotypes.first_quantum(number))?;
+    push_eight(out, genotypes.total(number))?;
+    push_effort(out, genotypes.first_effort(number))?;
+    push_effort(out, genotypes.second_effort(number))
+}
+
+fn push_code(out: &mut Vec<u8>, code: &Code) -> Result<(), OutOfMemory>
+    requires { length code.now < 2 ^ 32 }
+    ensures { OnOk result (out.new.items ≡ out.old.items ++ (four (length code.now) ++ code.now)) }
+{
+    push_four(out, code.items.len() as u32)?;
+    out.extend_from_slice(&code.items)
+}
+
+#[tactic(auto, unfolding(crate::specs::StateBytes::parent_bytes))]
+fn push_parent(out: &mut Vec<u8>, parent: Option<u64>) -> Result<(), OutOfMemory>
+    requires { IfSome parent (λ p. p < 2 ^ 60) }
+    ensures { OnOk result (out.new.items ≡ out.old.items ++ parent_bytes parent) }
+{
+    match parent {
+        Some(parent) => push_eight(out, parent + 1),
+        None => push_eight(out, 0),
+    }
+}
+
+#[tactic(auto, unfolding(crate::specs::StateBytes::savings_bytes))]
+fn push_savings(out: &mut Vec<u8>, running: &Running) -> Result<(), OutOfMemory>
+    ensures { OnOk result (out.new.items ≡ out.old.items ++ savings_bytes running.now.world) }
+{
+    push_eight(out, running.kept())?;
+    push_each_saving(out, running.genes().savings())
+}
+
+fn push_each_saving(out: &mut Vec<u8>, saved: &[Saving]) -> Result<(), OutOfMemory>
+    ensures { OnOk result (out.new.items ≡ out.old.items ++ flat_map saving_bytes (savings_of saved.now)) }
+{
+    for saving in saved {
+        push_saving(out, *saving)?;
+    }
+    Ok(())
+}
+
+#[tactic(auto, unfolding(crate::specs::StateBytes::saving_bytes))]
+fn push_saving(out: &mut Vec<u8>, saving: Saving) -> Result<(), OutOfMemory>
+    ensures { OnOk result (out.new.items ≡ out.old.items ++ saving_bytes (saving_of saving)) }
+{
+    push_eights(out, saving.genotype, saving.quantum)?;
+    push_efforts(out, saving.first_effort, saving.second_effort)
+}
+
+#[tactic(auto, unfolding(crate::specs::StateBytes::effort_bytes))]
+fn push_effort(out: &mut Vec<u8>, effort: Option<Effort>) -> Result<(), OutOfMemory>
+    ensures { OnOk result (out.new.items ≡ out.old.items ++ effort_bytes effort) }
+{
+    match effort {
+        Some(effort) => push_eights(out, effort.ran, effort.moved),
+        None => push_eights(out, 0, 0),
+    }
+}
+
+fn push_efforts(
+    out: &mut Vec<u8>,
+    first: Option<Effort>,
+    second: Option<Effort>,
+) -> Result<(), OutOfMemory>
+    ensures { OnOk result (out.new.items ≡ out.old.items ++ (effort_bytes first ++ effort_bytes second)) }
+{
+    push_effort(out, first)?;
+    push_effort(out, second)
+}
+
+// ---- numbers
+
+#[tactic(auto, unfolding(crate::specs::StateBytes::register_bytes))]
+fn push_register(out: &mut Vec<u8>, value: i32) -> Result<(), OutOfMemory>
+    ensures { OnOk result (out.new.items ≡ out.old.items ++ register_bytes value) }
+{
+    out.extend_from_slice(&value.to_be_bytes())
+}
+
+fn push_two_registers(out: &mut Vec<u8>, first: i32, second: i32) -> Result<(), OutOfMemory>
+    ensures { OnOk result (out.new.items ≡ out.old.items ++ (register_bytes first ++ register_bytes second)) }
+{
+    push_register(out, first)?;
+    push_register(out, second)
+}
+
+fn push_four(out: &mut Vec<u8>, number: u32) -> Result<(), OutOfMemory>
+    ensures { OnOk result (out.new.items ≡ out.old.items ++ four number) }
+{
+    out.extend_from_slice(&number.to_be_bytes())
+}
+
+fn push_fours(out: &mut Vec<u8>, first: u32, second: u32) -> Result<(), OutOfMemory>
+    ensures { OnOk result (out.new.items ≡ out.old.items ++ (four first ++ four second)) }
+{
+    push_four(out, first)?;
+    push_four(out, second)
+}
+
+fn push_eight(out: &mut Vec<u8>, number: u64) -> Result<(), OutOfMemory>
+    ensures { OnOk result (out.new.items ≡ out.old.items ++ eight number) }
+{
+    out.extend_from_slice(&number.to_be_bytes())
+}
+
+fn push_eights(out: &mut Vec<u8>, first: u64, second: u64) -> Result<(), OutOfMemory>
+    ensures { OnOk result (out.new.items ≡ out.old.items ++ (eight first ++ eight second)) }
+{
+    push_eight(out, first)?;
+    push_eight(out, second)
+}
+
+fn push_two_pairs(out: &mut Vec<u8>, a: u64, b: u64, c: u64, d: u64) -> Result<(), OutOfMemory>
+    ensures { OnOk result (out.new.items ≡ out.old.items ++ ((eight a ++ eight b) ++ (eight c ++ eight d))) }
+{
+    push_eights(out, a, b)?;
+    push_eights(out, c, d)
+}
