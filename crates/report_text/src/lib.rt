@@ -3,8 +3,12 @@
 
 mod bank;
 #[cfg(test)]
+mod dump_tests;
+#[cfg(test)]
 mod tests;
+mod world_dump;
 mod world_report;
 
 pub use bank::{bank_text, saved_line};
+pub use world_dump::dump;
 pub use world_report::report;

@@ -51,7 +51,7 @@ fn add_head(text: &mut String, world: &World) -> Result<(), OutOfMemory>
     add_front(text, world.front())
 }
 
-fn add_count(text: &mut String, label: &str, count: u64) -> Result<(), OutOfMemory>
+pub(crate) fn add_count(text: &mut String, label: &str, count: u64) -> Result<(), OutOfMemory>
     ensures { OnOk result (string_bytes text.new ≡ string_bytes text.old ++ (label.now ++ decimal count)) }
 {
     write!(text, "{label}{count}")
@@ -75,7 +75,7 @@ fn add_counts(text: &mut String, counts: Counts) -> Result<(), OutOfMemory>
     text.push_str("\n")
 }
 
-fn add_processor(text: &mut String, creature: &Creature) -> Result<(), OutOfMemory>
+pub(crate) fn add_processor(text: &mut String, creature: &Creature) -> Result<(), OutOfMemory>
     ensures { OnOk result (string_bytes text.new ≡ string_bytes text.old ++ processor_text creature.now) }
 {
     add_count(text, "ip ", u64::from(creature.ip))?;
