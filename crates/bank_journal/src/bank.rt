@@ -80,6 +80,7 @@ fn new_bank<D: Desk>(
     ensures groups { IfOk result (λ bank. bank.groups ≡ []) }
     ensures at_rest { OnOk result (IfSome (D.reads desk.new) (IsAtRest digest.now [])) }
     ensures durable { OnOk result (Only (D.reads desk.new) (D.may_leave desk.new)) }
+    ensures still { OnOk result (StaysTold (D.reads desk.old) (D.reads desk.new)) }
     ensures refused { IfErr result (λ e. IfBankRefused e (λ f. ⊥)) }
     ensures moments { IfSome (D.reads desk.old) (λ file. Elapses D.moment D.moments desk.old desk.new
         (WithText (D.told desk.old) (Has digest.now []))) }
@@ -113,6 +114,7 @@ fn bank_from<D: Desk>(
     ensures groups { IfOk result (λ bank. Has digest.now bank.groups image.now) }
     ensures at_rest { IfOk result (λ bank. IfSome (D.reads desk.new) (IsAtRest digest.now bank.groups)) }
     ensures durable { OnOk result (Only (D.reads desk.new) (D.may_leave desk.new)) }
+    ensures still { OnOk result (StaysTold (D.reads desk.old) (D.reads desk.new)) }
     ensures refused { IfErr result (λ e. IfBankRefused e (λ f. BankSays image.now (Some digest.now) (Err f))) }
     ensures untouched { IfErr result (λ e. IfBankRefused e (λ f. desk.new ≡ desk.old)) }
     ensures unwritten { (IsFresh image.now → ⊥) → desk.new ≡ desk.old }
@@ -163,6 +165,7 @@ fn open_gate<D: Desk>(desk: &mut D, bank: &Bank, group: &Group) -> Result<(), Di
     ensures moments { IfSome (D.reads desk.old) (λ file. Elapses D.moment D.moments desk.old desk.new
         (WithText (D.told desk.old) (HasBeforeOrAfter bank.now.digest bank.now.groups group.now))) }
     ensures durable { OnOk result (Only (D.reads desk.new) (D.may_leave desk.new)) }
+    ensures still { OnOk result (StaysTold (D.reads desk.old) (D.reads desk.new)) }
     ensures told { D.told desk.new ≡ D.told desk.old }
     ensures cause { HasCause (D.disk_faults desk.old) (D.disk_faults desk.new) result }
     ensures tell_faults { D.tell_faults desk.new ≡ D.tell_faults desk.old }
@@ -178,6 +181,7 @@ fn write_group<D: Desk>(desk: &mut D, bank: &Bank, group: &Group) -> Result<(), 
     requires room { HasRoomFor bank.now group.now }
     requires at_rest { IfSome (D.reads desk.old) (IsAtRest bank.now.digest bank.now.groups) }
     ensures at_rest { OnOk result (IfSome (D.reads desk.new) (IsAtRest bank.now.digest (bank.now.groups ++ group.now ∷ []))) }
+    ensures still { OnOk result (StaysTold (D.reads desk.old) (D.reads desk.new)) }
     ensures most { OnOk result (gate_place bank.now.groups + length bank.now.room ≤ 2 ^ 62) }
     ensures moments { IfSome (D.reads desk.old) (λ file. Elapses D.moment D.moments desk.old desk.new
         (WithText (D.told desk.old) (HasBeforeOrAfter bank.now.digest bank.now.groups group.now))) }
@@ -234,6 +238,7 @@ impl Bank {
         ensures groups { IfOk result (λ bank. IfSome (D.reads desk.old) (Has digest.now bank.groups)) }
         ensures at_rest { IfOk result (λ bank. IfSome (D.reads desk.new) (IsAtRest digest.now bank.groups)) }
         ensures durable { OnOk result (Only (D.reads desk.new) (D.may_leave desk.new)) }
+        ensures still { OnOk result (StaysTold (D.reads desk.old) (D.reads desk.new)) }
 
         // A refusal says what is wrong with that file. It writes nothing, nor is a bank written that was there.
         ensures refused { IfErr result (λ e. IfBankRefused e (λ f. IfSome (D.reads desk.old)
@@ -242,6 +247,10 @@ impl Bank {
         ensures no_crash_more { IfErr result (λ e. IfBankRefused e (λ f. NoMore (D.may_leave desk.old) (D.may_leave desk.new))) }
         ensures unwritten { OnOk result (IfSome (D.reads desk.old) (λ file. (IsFresh file → ⊥)
             → D.reads desk.new ≡ D.reads desk.old)) }
+
+        // A bank that is there is not written at any moment.
+        ensures quiet { IfSome (D.reads desk.old) (λ file. (IsFresh file → ⊥) → Elapses D.moment D.moments desk.old desk.new
+            (WithText (D.told desk.old) (D.may_leave desk.old))) }
 
         // A crash at any moment leaves what says the same as a file that a crash might have left at the start, or as
         // the one that was read then.
@@ -292,6 +301,7 @@ impl Bank {
         ensures groups { IfOk result (λ bank. bank.groups ≡ self.groups ++ group ∷ []) }
         ensures at_rest { IfOk result (λ bank. IfSome (D.reads desk.new) (IsAtRest bank.digest bank.groups)) }
         ensures durable { OnOk result (Only (D.reads desk.new) (D.may_leave desk.new)) }
+        ensures still { OnOk result (StaysTold (D.reads desk.old) (D.reads desk.new)) }
 
         // A crash at any moment leaves the groups from before, with the new one or without.
         ensures moments { IfSome (D.reads desk.old) (λ file. Elapses D.moment D.moments desk.old desk.new
