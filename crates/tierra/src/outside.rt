@@ -83,11 +83,22 @@ impl<'r, R: Files<File = File> + Print> FileDesk<'r, R> {
     }
 }
 
+// Files in the place of standard ones that the caller closed. While they are open the genebank's file cannot take such a
+// number, at which what is printed would go into it.
+fn stand_ins<R: Files<File = File>>(rt: &R) -> [Option<File>; 3] {
+    [
+        File::open(rt, "/dev/null").ok(),
+        File::open(rt, "/dev/null").ok(),
+        File::open(rt, "/dev/null").ok(),
+    ]
+}
+
 // The file, opened or made where no call has done so yet.
 fn opened<'f, R: Files<File = File>>(rt: &R, file: &'f mut Option<File>) -> io::Result<&'f File> {
     if file.is_none() {
         let mut how = OpenOptions::new();
         how.read(true).write(true).create(true);
+        let _stand_ins = stand_ins(rt);
         *file = Some(how.open(rt, "tierra.bank")?);
     }
     match file {
