@@ -193,9 +193,8 @@ fn each_range_has_its_ends(rt: HostRuntime) -> Result<(), Fail> {
 }
 
 #[test]
-fn the_first_check_that_fails_is_told(rt: HostRuntime) {
+fn the_document_and_its_keys_come_first(rt: HostRuntime) {
     let rows = [
-        // the document, then its keys
         ("slices = 3 slice_size = 0", Refusal::NotToml),
         ("a = 1\nsoup_size = 1\nsoup_size = 1", Refusal::NotToml),
         ("soup_size = 9223372036854775808", Refusal::NotToml),
@@ -207,88 +206,54 @@ fn the_first_check_that_fails_is_told(rt: HostRuntime) {
         ("'a\"b' = 1", Refusal::UnknownKey("a\"b")),
         ("\"\" = 1", Refusal::UnknownKey("")),
         ("z = 1\ncreature = [{ a = 1 }]", Refusal::UnknownKey("z")),
-        // the settings, in their order
-        (
-            "soup_size = 99\nslice_size = ''",
-            Refusal::OutOfRange("soup_size"),
-        ),
-        (
-            "slice_size = 1.0\nslice_by_size = 1",
-            Refusal::WrongKind("slice_size"),
-        ),
-        (
-            "slice_by_size = 1\nslice_num = 0",
-            Refusal::WrongKind("slice_by_size"),
-        ),
-        (
-            "slice_num = 0\nslice_den = 0",
-            Refusal::OutOfRange("slice_num"),
-        ),
-        (
-            "slice_den = 0\nsearch_limit = 0",
-            Refusal::OutOfRange("slice_den"),
-        ),
-        (
-            "search_limit = 0\nmin_template = 0",
-            Refusal::OutOfRange("search_limit"),
-        ),
-        (
-            "min_template = 0\nmin_cell = 0",
-            Refusal::OutOfRange("min_template"),
-        ),
-        (
-            "min_cell = 0\nmax_cell = 0",
-            Refusal::OutOfRange("min_cell"),
-        ),
-        (
-            "max_cell = 0\nmal_mult = 0",
-            Refusal::OutOfRange("max_cell"),
-        ),
-        (
-            "mal_mult = 0\nfill_percent = 0",
-            Refusal::OutOfRange("mal_mult"),
-        ),
-        (
-            "fill_percent = 0\nmove_percent = -1",
-            Refusal::OutOfRange("fill_percent"),
-        ),
-        (
-            "move_percent = -1\nsave_at = 0",
-            Refusal::OutOfRange("move_percent"),
-        ),
-        (
-            "save_at = 0\nback_rate = -1",
-            Refusal::OutOfRange("save_at"),
-        ),
-        (
-            "back_rate = -1\ncopy_rate = -1",
-            Refusal::OutOfRange("back_rate"),
-        ),
-        (
-            "copy_rate = -1\nflaw_rate = -1",
-            Refusal::OutOfRange("copy_rate"),
-        ),
-        (
-            "flaw_rate = -1\nseed = ''",
-            Refusal::OutOfRange("flaw_rate"),
-        ),
-        ("seed = 5\ndist_every = -1", Refusal::WrongKind("seed")),
-        ("seed = ''\ndist_every = -1", Refusal::OutOfRange("seed")),
-        (
-            "dist_every = 4000001\ndist_percent = -1",
-            Refusal::OutOfRange("dist_every"),
-        ),
-        (
-            "dist_percent = 101\nmax_cell = 11",
-            Refusal::OutOfRange("dist_percent"),
-        ),
-        (
-            "max_cell = 11\ncreature = 1",
-            Refusal::OutOfRange("max_cell"),
-        ),
     ];
     for (text, refusal) in rows {
         assert!(rt; is_refused(rt.alloc(), text, &refusal), "{text}");
+    }
+}
+
+#[test]
+fn the_first_setting_of_another_kind_is_told(rt: HostRuntime) {
+    let rows = [
+        ("slice_size = 1.0\nslice_by_size = 1", "slice_size"),
+        ("slice_by_size = 1\nslice_num = 0", "slice_by_size"),
+        ("seed = 5\ndist_every = -1", "seed"),
+    ];
+    for (text, key) in rows {
+        assert!(rt;
+            is_refused(rt.alloc(), text, &Refusal::WrongKind(key)),
+            "{text}"
+        );
+    }
+}
+
+#[test]
+fn the_first_setting_out_of_range_is_told(rt: HostRuntime) {
+    let rows = [
+        ("soup_size = 99\nslice_size = ''", "soup_size"),
+        ("slice_num = 0\nslice_den = 0", "slice_num"),
+        ("slice_den = 0\nsearch_limit = 0", "slice_den"),
+        ("search_limit = 0\nmin_template = 0", "search_limit"),
+        ("min_template = 0\nmin_cell = 0", "min_template"),
+        ("min_cell = 0\nmax_cell = 0", "min_cell"),
+        ("max_cell = 0\nmal_mult = 0", "max_cell"),
+        ("mal_mult = 0\nfill_percent = 0", "mal_mult"),
+        ("fill_percent = 0\nmove_percent = -1", "fill_percent"),
+        ("move_percent = -1\nsave_at = 0", "move_percent"),
+        ("save_at = 0\nback_rate = -1", "save_at"),
+        ("back_rate = -1\ncopy_rate = -1", "back_rate"),
+        ("copy_rate = -1\nflaw_rate = -1", "copy_rate"),
+        ("flaw_rate = -1\nseed = ''", "flaw_rate"),
+        ("seed = ''\ndist_every = -1", "seed"),
+        ("dist_every = 4000001\ndist_percent = -1", "dist_every"),
+        ("dist_percent = 101\nmax_cell = 11", "dist_percent"),
+        ("max_cell = 11\ncreature = 1", "max_cell"),
+    ];
+    for (text, key) in rows {
+        assert!(rt;
+            is_refused(rt.alloc(), text, &Refusal::OutOfRange(key)),
+            "{text}"
+        );
     }
 }
 
@@ -331,6 +296,15 @@ fn the_first_creature_that_fails_is_told(rt: HostRuntime) {
             "creature = [{ at = 0, code = 1 }, { a = 1 }]",
             Refusal::WrongKind("creature.code"),
         ),
+    ];
+    for (text, refusal) in rows {
+        assert!(rt; is_refused(rt.alloc(), text, &refusal), "{text}");
+    }
+}
+
+#[test]
+fn the_first_code_or_block_that_fails_is_told(rt: HostRuntime) {
+    let rows = [
         (
             "creature = [{ at = 0, code = 'zero' }, { at = 59999, code = 'zero\tzoro' }]",
             Refusal::Listing(2, AsmFault::UnknownName { line: 1 }),
