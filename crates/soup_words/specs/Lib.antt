@@ -1,3 +1,4 @@
 pub mod Split
+pub mod Table
 pub mod Orders
 pub mod Laws

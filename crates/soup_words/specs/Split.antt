@@ -11,11 +11,17 @@ option_rule name = record (new_rule name) { long = Some name }
 abbrev pub start_app : App
 start_app = on_top (λ (s : Shape). record s { no_binary_name = true; disable_help_flag = true }) (new_app (codes "tierra"))
 
--- one positional and three options
+abbrev pub with_option : App → Text → App
+with_option app name = with_rule app (option_rule name)
+
+-- one positional, and the options that a run or a drill may have
+abbrev pub basic_app : App
+basic_app =
+    with_option (with_option (with_option (with_rule start_app (new_rule (codes "action"))) (codes "quanta")) (codes "workers")) (codes "number")
+
+-- and all others
 abbrev pub tierra_app : App
-tierra_app =
-    with_rule (with_rule (with_rule (with_rule start_app (new_rule (codes "action"))) (option_rule (codes "quanta"))) (option_rule (codes "workers")))
-    (option_rule (codes "number"))
+tierra_app = with_option (with_option (with_option (with_option basic_app (codes "every")) (codes "looks")) (codes "isles")) (codes "epochs")
 
 -- the text that the words give to a name
 unfoldable pub given : List Text → Text → Option Text

@@ -5,9 +5,10 @@ mod laws;
 mod number;
 mod order;
 mod split;
+mod table;
 
 pub use laws::words_are_clear;
-pub use order::{Action, Order, WordsFault, read_words};
+pub use order::{Action, Order, WordsFault, file_for, read_words};
 
 #[cfg(test)]
 mod tests;

@@ -6,28 +6,27 @@ ghost use Rattle.std.specs.Option.{option_copied};
 ghost use Rattle.soup_words.specs.Orders.{IsValue};
 
 use crate::order::WordsFault;
+use crate::table::Range;
 use std::alloc::Global;
 use tierra_model::OutOfMemory;
 
 /// The number that an option's text spells, which lies in its range, or the default where there is no text. An option
-/// that is not allowed has none.
+/// with no range is refused.
 pub(crate) fn value_of(
     alloc: Global,
-    is_allowed: bool,
+    range: Range,
     text: Option<&str>,
-    low: u64,
-    high: u64,
     default: u64,
 ) -> Result<u64, WordsFault>
-    ensures value { IfOk result (IsValue is_allowed (option_copied text.entry) low high default) }
-    ensures refused { IsErrOf result WordsFault.Refused → (n : ℕ) → IsValue is_allowed (option_copied text.entry) low high default n → ⊥ }
+    ensures value { IfOk result (IsValue range (option_copied text.entry) default) }
+    ensures refused { IsErrOf result WordsFault.Refused → (n : ℕ) → IsValue range (option_copied text.entry) default n → ⊥ }
 {
     let Some(text) = text else {
         return Ok(default);
     };
-    if !is_allowed {
+    let Some((low, high)) = range else {
         return Err(WordsFault::Refused);
-    }
+    };
     match number_from(alloc, text) {
         Ok(Some(number)) => within(low, high, number),
         Ok(None) => Err(WordsFault::Refused),
@@ -39,6 +38,7 @@ fn within(low: u64, high: u64, number: u64) -> Result<u64, WordsFault>
     ensures value { IfOk result (λ n. (n ≡ number) × (low ≤ n) × (n ≤ high)) }
     ensures refused { IsErrOf result WordsFault.Refused → low ≤ number → number ≤ high → ⊥ }
     ensures memory { IsErrOf result WordsFault.OutOfMemory → ⊥ }
+    ensures fits { high < 2 ^ 64 }
 {
     if number < low || number > high {
         return Err(WordsFault::Refused);

@@ -1,11 +1,13 @@
 //! What the words ask for.
 
-ghost use Rattle.std.specs.Prelude.{◌≡◌, IfOk, IsErrOf, map, string_bytes};
-ghost use Rattle.soup_words.specs.Orders.{IsOrderOf, action_name, action_named, has_number, has_quanta, has_workers};
+ghost use Rattle.std.specs.Prelude.{◌≡◌, IfOk, IsErrOf, codes, map, string_bytes};
+ghost use Rattle.soup_words.specs.Orders.{AskToHold, IsInRange, IsOrderOf};
 
 use crate::number::value_of;
 use crate::split::split_words;
-use std::alloc::Global;
+use crate::table::{action_named, row_of};
+use std::alloc::{AllocError, Global};
+use tierra_model::OutOfMemory;
 
 /// What the program is to do.
 #[derive(Clone, Copy, Debug, Drop, PartialEq, Eq)]
@@ -24,6 +26,16 @@ pub enum Action {
     Drill,
     /// Tells the state of a world.
     Dump,
+    /// Runs a soup file and keeps its world in a checkpoint.
+    Hold,
+    /// Tells the births and deaths of a run.
+    Curve,
+    /// Tells what the daughters of a genebank's genotypes cost.
+    Probe,
+    /// Runs a soup file while others look on.
+    Watch,
+    /// Runs isles with migration.
+    Isles,
 }
 
 /// What the words ask for. What they leave out, and what the action does not have, has its default.
@@ -33,6 +45,10 @@ pub struct Order {
     pub quanta: u64,
     pub workers: u32,
     pub number: u64,
+    pub every: u64,
+    pub looks: u64,
+    pub isles: u64,
+    pub epochs: u64,
 }
 
 /// Why the words give no order.
@@ -44,10 +60,12 @@ pub enum WordsFault {
 
 /// The order of the words.
 ///
-/// One word is the action. An option stands before or after it, as `--quanta 34` or `--quanta=34`, and once at most:
-/// `--quanta` from 1 to 4,000,000, 1000 where it is left out; `--workers` from 1 to 64, else 1; `--number`, else 0.
+/// One word is the action. An option stands before or after it, as `--quanta 34` or `--quanta=34`, and once at most.
+/// Where it is left out, `--quanta` is 1000, `--workers` 1, `--number` 0, `--every` 1000, `--looks` 10, `--isles` 2 and
+/// `--epochs` 2.
 pub fn read_words(alloc: Global, words: &Vec<String>) -> Result<Order, WordsFault>
     ensures order { IfOk result (IsOrderOf (map string_bytes words.now.items)) }
+    ensures in_range { IfOk result IsInRange }
     ensures refused { IsErrOf result WordsFault.Refused → (order : Order) → IsOrderOf (map string_bytes words.now.items) order → ⊥ }
 {
     let split = match split_words(alloc, words.as_slice()) {
@@ -60,69 +78,27 @@ pub fn read_words(alloc: Global, words: &Vec<String>) -> Result<Order, WordsFaul
     let Some(action) = action_named(text) else {
         return Err(WordsFault::Refused);
     };
-    let quanta = value_of(alloc, has_quanta(action), split.quanta, 1, 4_000_000, 1000)?;
-    let workers = value_of(alloc, has_workers(action), split.workers, 1, 64, 1)?;
-    let number = value_of(alloc, has_number(action), split.number, 0, u64::MAX, 0)?;
+    let row = row_of(action);
     Ok(Order {
         action,
-        quanta,
-        workers: workers as u32,
-        number,
+        quanta: value_of(alloc, row.quanta, split.quanta, 1000)?,
+        workers: value_of(alloc, row.workers, split.workers, 1)? as u32,
+        number: value_of(alloc, row.number, split.number, 0)?,
+        every: value_of(alloc, row.every, split.every, 1000)?,
+        looks: value_of(alloc, row.looks, split.looks, 10)?,
+        isles: value_of(alloc, row.isles, split.isles, 2)?,
+        epochs: value_of(alloc, row.epochs, split.epochs, 2)?,
     })
 }
 
-const ACTIONS: [Action; 7] = [
-    Action::Grow,
-    Action::Run,
-    Action::Asm,
-    Action::Dis,
-    Action::Bank,
-    Action::Drill,
-    Action::Dump,
-];
-
-#[tactic(auto, unfolding(crate::specs::Orders::action_named))]
-fn action_named(text: &str) -> Option<Action>
-    ensures { result ≡ action_named text.now }
+/// The file that the words' action keeps. Words that are refused have the genebank's.
+pub fn file_for(alloc: Global, words: &Vec<String>) -> Result<&'static str, OutOfMemory>
+    ensures hold { IfOk result (λ name. AskToHold (map string_bytes words.now.items) → name.now ≡ codes "tierra.hold") }
+    ensures bank { IfOk result (λ name. (AskToHold (map string_bytes words.now.items) → ⊥) → name.now ≡ codes "tierra.bank") }
 {
-    ACTIONS
-        .iter()
-        .copied()
-        .find(|action| text == action_name(*action))
-}
-
-#[tactic(auto, unfolding(crate::specs::Orders::action_name))]
-fn action_name(action: Action) -> &'static str
-    ensures { result.now ≡ action_name action }
-{
-    match action {
-        Action::Grow => "grow",
-        Action::Run => "run",
-        Action::Asm => "asm",
-        Action::Dis => "dis",
-        Action::Bank => "bank",
-        Action::Drill => "drill",
-        Action::Dump => "dump",
+    match read_words(alloc, words) {
+        Ok(order) if order.action == Action::Hold => Ok("tierra.hold"),
+        Err(WordsFault::OutOfMemory) => Err(AllocError),
+        _ => Ok("tierra.bank"),
     }
-}
-
-fn has_quanta(action: Action) -> bool
-    ensures { result ≡ has_quanta action }
-{
-    matches!(
-        action,
-        Action::Grow | Action::Run | Action::Drill | Action::Dump
-    )
-}
-
-fn has_workers(action: Action) -> bool
-    ensures { result ≡ has_workers action }
-{
-    matches!(action, Action::Grow | Action::Run)
-}
-
-fn has_number(action: Action) -> bool
-    ensures { result ≡ has_number action }
-{
-    matches!(action, Action::Drill)
 }

@@ -3,7 +3,7 @@
 ghost use Rattle.std.specs.Prelude.{◌≡◌, ◌≢◌, [], false, IfOk, IsErrOf, codes, map, string_bytes};
 ghost use Rattle.std.specs.Option.{option_copied};
 ghost use Rattle.clap.specs.Words.{app_of, fault_of, rule_of};
-ghost use Rattle.soup_words.specs.Split.{given, option_rule, start_app, tierra_app};
+ghost use Rattle.soup_words.specs.Split.{basic_app, given, option_rule, start_app, tierra_app};
 
 use crate::order::WordsFault;
 use clap::error::ErrorKind;
@@ -17,6 +17,10 @@ pub(crate) struct Split<'a> {
     pub(crate) quanta: Option<&'a str>,
     pub(crate) workers: Option<&'a str>,
     pub(crate) number: Option<&'a str>,
+    pub(crate) every: Option<&'a str>,
+    pub(crate) looks: Option<&'a str>,
+    pub(crate) isles: Option<&'a str>,
+    pub(crate) epochs: Option<&'a str>,
 }
 
 /// Splits the words: one action, and options with a value each, in any order.
@@ -26,6 +30,10 @@ pub(crate) fn split_words<'a>(alloc: Global, words: &'a [String]) -> Result<Spli
     ensures quanta { IfOk result (λ s. option_copied s.quanta ≡ given (map string_bytes words.entry.now) (codes "quanta")) }
     ensures workers { IfOk result (λ s. option_copied s.workers ≡ given (map string_bytes words.entry.now) (codes "workers")) }
     ensures number { IfOk result (λ s. option_copied s.number ≡ given (map string_bytes words.entry.now) (codes "number")) }
+    ensures every { IfOk result (λ s. option_copied s.every ≡ given (map string_bytes words.entry.now) (codes "every")) }
+    ensures looks { IfOk result (λ s. option_copied s.looks ≡ given (map string_bytes words.entry.now) (codes "looks")) }
+    ensures isles { IfOk result (λ s. option_copied s.isles ≡ given (map string_bytes words.entry.now) (codes "isles")) }
+    ensures epochs { IfOk result (λ s. option_copied s.epochs ≡ given (map string_bytes words.entry.now) (codes "epochs")) }
     ensures refused { IsErrOf result WordsFault.Refused → fault_of tierra_app (map string_bytes words.entry.now) ≢ [] }
 {
     let command = match command(alloc) {
@@ -46,11 +54,26 @@ pub(crate) fn split_words<'a>(alloc: Global, words: &'a [String]) -> Result<Spli
         quanta: matches.get_str("quanta"),
         workers: matches.get_str("workers"),
         number: matches.get_str("number"),
+        every: matches.get_str("every"),
+        looks: matches.get_str("looks"),
+        isles: matches.get_str("isles"),
+        epochs: matches.get_str("epochs"),
     })
 }
 
 fn command<'a>(alloc: Global) -> Result<Command<'a>, AllocError>
     ensures { IfOk result (λ c. app_of c ≡ tierra_app) }
+{
+    basic_command(alloc)?
+        .arg(option(alloc, "every"))?
+        .arg(option(alloc, "looks"))?
+        .arg(option(alloc, "isles"))?
+        .arg(option(alloc, "epochs"))
+}
+
+/// The action, and the options that a run or a drill may have.
+fn basic_command<'a>(alloc: Global) -> Result<Command<'a>, AllocError>
+    ensures { IfOk result (λ c. app_of c ≡ basic_app) }
 {
     start(alloc)
         .arg(Arg::new(alloc, "action"))?

@@ -2,6 +2,18 @@ use super::*;
 use std::alloc::{AllocError, Global};
 use std::test::Fail;
 
+/// The order of an action with nothing else said.
+const PLAIN: Order = Order {
+    action: Action::Grow,
+    quanta: 1000,
+    workers: 1,
+    number: 0,
+    every: 1000,
+    looks: 10,
+    isles: 2,
+    epochs: 2,
+};
+
 // The words of a line, parted by spaces.
 fn words_of(alloc: Global, line: &str) -> Result<Vec<String>, AllocError> {
     let mut words = Vec::new(alloc);
@@ -14,41 +26,146 @@ fn words_of(alloc: Global, line: &str) -> Result<Vec<String>, AllocError> {
 }
 
 #[test]
-fn words_give_their_order(rt: HostRuntime) -> Result<(), Fail> {
+fn an_action_alone_has_the_defaults(rt: HostRuntime) -> Result<(), Fail> {
     let rows = [
-        ("grow", Action::Grow, 1000, 1, 0),
-        ("run", Action::Run, 1000, 1, 0),
-        ("asm", Action::Asm, 1000, 1, 0),
-        ("dis", Action::Dis, 1000, 1, 0),
-        ("bank", Action::Bank, 1000, 1, 0),
-        ("drill", Action::Drill, 1000, 1, 0),
-        ("dump", Action::Dump, 1000, 1, 0),
-        ("--workers=2 run --quanta 34", Action::Run, 34, 2, 0),
-        ("--quanta 1 --workers 64 grow", Action::Grow, 1, 64, 0),
-        (
-            "drill --number=18446744073709551615 --quanta=4000000",
-            Action::Drill,
-            4_000_000,
-            1,
-            u64::MAX,
-        ),
-        ("dump --quanta 10", Action::Dump, 10, 1, 0),
-        ("drill --number 0", Action::Drill, 1000, 1, 0),
-        ("--quanta 5 -- run", Action::Run, 5, 1, 0),
+        ("grow", Action::Grow),
+        ("run", Action::Run),
+        ("asm", Action::Asm),
+        ("dis", Action::Dis),
+        ("bank", Action::Bank),
+        ("drill", Action::Drill),
+        ("dump", Action::Dump),
+        ("hold", Action::Hold),
+        ("curve", Action::Curve),
+        ("probe", Action::Probe),
+        ("watch", Action::Watch),
+        ("isles", Action::Isles),
     ];
-    for (line, action, quanta, workers, number) in rows {
+    for (line, action) in rows {
         let words = words_of(rt.alloc(), line)?;
         let order = read_words(rt.alloc(), &words);
-        assert_eq!(rt;
-            order,
-            Ok(Order {
-                action,
-                quanta,
-                workers,
-                number
-            }),
-            "{line}"
-        );
+        assert_eq!(rt; order, Ok(Order { action, ..PLAIN }), "{line}");
+    }
+    Ok(())
+}
+
+#[test]
+fn words_give_their_order(rt: HostRuntime) -> Result<(), Fail> {
+    let run = Order {
+        action: Action::Run,
+        ..PLAIN
+    };
+    let drill = Order {
+        action: Action::Drill,
+        ..PLAIN
+    };
+    let watch = Order {
+        action: Action::Watch,
+        ..PLAIN
+    };
+    let isles = Order {
+        action: Action::Isles,
+        ..PLAIN
+    };
+    let rows = [
+        (
+            "--workers=2 run --quanta 34",
+            Order {
+                quanta: 34,
+                workers: 2,
+                ..run
+            },
+        ),
+        ("--quanta 5 -- run", Order { quanta: 5, ..run }),
+        (
+            "--quanta 1 --workers 64 grow",
+            Order {
+                quanta: 1,
+                workers: 64,
+                ..PLAIN
+            },
+        ),
+        (
+            "drill --number=18446744073709551615 --quanta=4000000",
+            Order {
+                quanta: 4_000_000,
+                number: u64::MAX,
+                ..drill
+            },
+        ),
+        ("drill --number 0", drill),
+        (
+            "dump --quanta 10",
+            Order {
+                action: Action::Dump,
+                quanta: 10,
+                ..PLAIN
+            },
+        ),
+        (
+            "hold --quanta 100 --every 34",
+            Order {
+                action: Action::Hold,
+                quanta: 100,
+                every: 34,
+                ..PLAIN
+            },
+        ),
+        (
+            "--every=4000000 curve",
+            Order {
+                action: Action::Curve,
+                every: 4_000_000,
+                ..PLAIN
+            },
+        ),
+        (
+            "probe --quanta 100 --workers 64",
+            Order {
+                action: Action::Probe,
+                quanta: 100,
+                workers: 64,
+                ..PLAIN
+            },
+        ),
+        (
+            "watch --workers 63 --looks 1000",
+            Order {
+                workers: 63,
+                looks: 1000,
+                ..watch
+            },
+        ),
+        (
+            "watch --quanta 2 --looks 1",
+            Order {
+                quanta: 2,
+                looks: 1,
+                ..watch
+            },
+        ),
+        (
+            "isles --quanta 2 --epochs 1 --isles 1 --workers 64",
+            Order {
+                quanta: 2,
+                epochs: 1,
+                isles: 1,
+                workers: 64,
+                ..isles
+            },
+        ),
+        (
+            "isles --epochs 1000 --isles 64",
+            Order {
+                epochs: 1000,
+                isles: 64,
+                ..isles
+            },
+        ),
+    ];
+    for (line, order) in rows {
+        let words = words_of(rt.alloc(), line)?;
+        assert_eq!(rt; read_words(rt.alloc(), &words), Ok(order), "{line}");
     }
     Ok(())
 }
@@ -84,10 +201,48 @@ fn other_words_are_refused(rt: HostRuntime) -> Result<(), Fail> {
         "runs",
         "run --seed 1",
         "run -- --quanta 5",
+        "hold --every 0",
+        "curve --every 4000001",
+        "run --every 10",
+        "hold --workers 2",
+        "curve --looks 3",
+        "bank --quanta 3",
+        "probe --workers 65",
+        "probe --number 1",
+        "watch --workers 64",
+        "watch --looks 0",
+        "watch --looks 1001",
+        "watch --every 5",
+        "isles --epochs 1001",
+        "isles --epochs 0",
+        "isles --isles 65",
+        "isles --isles 0",
+        "isles --workers 65",
+        "grow --isles 2",
+        "grow --epochs 2",
+        "isles --isles 2 --isles 2",
     ] {
         let words = words_of(rt.alloc(), line)?;
         let order = read_words(rt.alloc(), &words);
         assert_eq!(rt; order, Err(WordsFault::Refused), "{line}");
+    }
+    Ok(())
+}
+
+#[test]
+fn a_hold_alone_keeps_a_checkpoint(rt: HostRuntime) -> Result<(), Fail> {
+    let rows = [
+        ("hold", "tierra.hold"),
+        ("--every 34 hold --quanta 100", "tierra.hold"),
+        ("hold --every 0", "tierra.bank"),
+        ("hold hold", "tierra.bank"),
+        ("run --quanta 5", "tierra.bank"),
+        ("bank", "tierra.bank"),
+        ("", "tierra.bank"),
+    ];
+    for (line, file) in rows {
+        let words = words_of(rt.alloc(), line)?;
+        assert_eq!(rt; file_for(rt.alloc(), &words)?, file, "{line}");
     }
     Ok(())
 }

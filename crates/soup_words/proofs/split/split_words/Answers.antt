@@ -39,3 +39,15 @@ returns-clause-workers c = given_is _ _ _ _ _ c.in-Ok.ensures c.in-Ok-try_get_ma
 
 pub returns-clause-number : goal.returns-clause-number
 returns-clause-number c = given_is _ _ _ _ _ c.in-Ok.ensures c.in-Ok-try_get_matches_from.ensures.matches c.get_str-4.ensures
+
+pub returns-clause-every : goal.returns-clause-every
+returns-clause-every c = given_is _ _ _ _ _ c.in-Ok.ensures c.in-Ok-try_get_matches_from.ensures.matches c.get_str-5.ensures
+
+pub returns-clause-looks : goal.returns-clause-looks
+returns-clause-looks c = given_is _ _ _ _ _ c.in-Ok.ensures c.in-Ok-try_get_matches_from.ensures.matches c.get_str-6.ensures
+
+pub returns-clause-isles : goal.returns-clause-isles
+returns-clause-isles c = given_is _ _ _ _ _ c.in-Ok.ensures c.in-Ok-try_get_matches_from.ensures.matches c.get_str-7.ensures
+
+pub returns-clause-epochs : goal.returns-clause-epochs
+returns-clause-epochs c = given_is _ _ _ _ _ c.in-Ok.ensures c.in-Ok-try_get_matches_from.ensures.matches c.get_str-8.ensures

@@ -1,0 +1,51 @@
+-- The table of the actions.
+use Rattle.std.specs.Prelude.{ℕ, List, [], ◌∷◌, Option, Some, None, bytes_eq, codes, find}
+use Rattle.soup_words.specs.declared.order.Action.{Action}
+use Rattle.soup_words.specs.declared.order.Action.TheVariants.{Grow, Run, Asm, Dis, Bank, Drill, Dump, Hold, Curve, Probe, Watch, Isles}
+
+-- the least and the greatest number of an option, where the action has it
+abbrev pub Range : Type 0
+Range = Option (ℕ × ℕ)
+
+abbrev pub to : ℕ → Range
+to most = Some (1, most)
+
+-- what an action is called, and the options that it has
+pub record Row : Type 0 where
+  pub name : List ℕ
+  pub quanta : Range
+  pub workers : Range
+  pub number : Range
+  pub every : Range
+  pub looks : Range
+  pub isles : Range
+  pub epochs : Range
+
+-- an action with no option
+abbrev pub plain_row : List ℕ → Row
+plain_row name = record { name = name; quanta = None; workers = None; number = None; every = None; looks = None; isles = None; epochs = None }
+
+-- an action that takes quanta
+abbrev pub timed_row : List ℕ → Row
+timed_row name = record (plain_row name) { quanta = to 4000000 }
+
+unfoldable pub row_of : Action → Row
+row_of Grow = record (timed_row (codes "grow")) { workers = to 64 }
+row_of Run = record (timed_row (codes "run")) { workers = to 64 }
+row_of Asm = plain_row (codes "asm")
+row_of Dis = plain_row (codes "dis")
+row_of Bank = plain_row (codes "bank")
+row_of Drill = record (timed_row (codes "drill")) { number = Some (0, 18446744073709551615) }
+row_of Dump = timed_row (codes "dump")
+row_of Hold = record (timed_row (codes "hold")) { every = to 4000000 }
+row_of Curve = record (timed_row (codes "curve")) { every = to 4000000 }
+row_of Probe = record (timed_row (codes "probe")) { workers = to 64 }
+row_of Watch = record (timed_row (codes "watch")) { workers = to 63; looks = to 1000 }
+row_of Isles = record (timed_row (codes "isles")) { workers = to 64; isles = to 64; epochs = to 1000 }
+
+abbrev pub actions : List Action
+actions = Grow ∷ Run ∷ Asm ∷ Dis ∷ Bank ∷ Drill ∷ Dump ∷ Hold ∷ Curve ∷ Probe ∷ Watch ∷ Isles ∷ []
+
+-- the action whose name the text is
+unfoldable pub action_named : List ℕ → Option Action
+action_named text = find (λ action. bytes_eq text (Row.name (row_of action))) actions
