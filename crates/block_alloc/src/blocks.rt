@@ -1,10 +1,10 @@
 //! The block allocator.
 
-ghost use Rattle.std.specs.Prelude.{◌≡◌, ◌+◌, ◌<◌, ◌≤◌, ◌&&◌, ◌||◌, ℕ, IfOk, OnOk, OnErr, Some, false, find, length, nat_le, not, option_map, slice_get, true};
+ghost use Rattle.std.specs.Prelude.{◌≡◌, ◌+◌, ◌<◌, ◌≤◌, ◌&&◌, ◌||◌, [], ℕ, IfOk, OnOk, OnErr, Some, false, find, length, nat_le, not, option_map, slice_get, true};
 ghost use Rattle.tierra_model.specs.Blocks.{is_in};
 ghost use Rattle.tierra_model.specs.FreeList.{is_in_some, runs_of};
 ghost use Rattle.tierra_model.specs.Room as room;
-ghost use Rattle.block_alloc.specs.Runs.{AllBelow, AreRuns};
+ghost use Rattle.block_alloc.specs.Runs.{AllBelow, AreRuns, cells_of};
 
 use crate::runs::{put_in, take_out};
 use std::alloc::Global;
@@ -48,6 +48,48 @@ impl Blocks {
             free,
             filled: 0,
         })
+    }
+
+    /// An allocator of which these are the runs of free cells.
+    pub fn of_runs(alloc: Global, size: u32, runs: &[Block]) -> Result<Blocks, OutOfMemory>
+        requires { AreRuns 0 size runs.now }
+        ensures size { IfOk result (λ b. b.size ≡ size) }
+        ensures free { IfOk result (λ b. b.free ≡ runs.now) }
+    {
+        let mut free = Vec::with_capacity(alloc, runs.len())?;
+        free.extend_from_slice(runs)?;
+        Ok(Blocks {
+            size,
+            free,
+            filled: filled_of(runs, size),
+        })
+    }
+
+    /// An allocator with no free cell. It takes no memory.
+    pub fn full(alloc: Global, size: u32) -> Blocks
+        ensures size { result.size ≡ size }
+        ensures free { result.free ≡ [] }
+    {
+        Blocks {
+            size,
+            free: Vec::new(alloc),
+            filled: size,
+        }
+    }
+
+    /// Lets these be the runs of free cells in a soup of `size` cells, whatever was free before. It takes no memory.
+    pub fn refill(&mut self, size: u32, runs: &[Block])
+        requires runs { AreRuns 0 size runs.now }
+        requires room { length runs.now ≤ length self.old.free + self.old.spare }
+        ensures size { self.new.size ≡ size }
+        ensures free { self.new.free ≡ runs.now }
+        ensures room { length self.old.free + self.old.spare ≤ length runs.now + self.new.spare }
+    {
+        self.free.clear();
+        let copied: Result<_, _> = self.free.extend_from_slice(runs);
+        copied.unwrap();
+        self.size = size;
+        self.filled = filled_of(runs, size);
     }
 
     /// The least address of a block of free cells, if there is one of that size.
@@ -130,6 +172,37 @@ impl Blocks {
     }
 }
 
+/// The least address of `size` free cells, where these are the runs of free cells in a soup of `cells`.
+pub fn fit_in(runs: &[Block], cells: u32, size: u32) -> Option<u32>
+    requires runs { AreRuns 0 cells runs.now }
+    requires one { 1 ≤ size }
+    ensures { result ≡ room.first_fit cells (λ p. not (is_in_some runs.now p)) size }
+{
+    first_long(runs, size)
+}
+
+/// How many cells are owned, where these are the runs of free cells in a soup of `cells`.
+pub fn filled_of(runs: &[Block], cells: u32) -> u32
+    requires { AreRuns 0 cells runs.now }
+    ensures filled { result ≡ room.filled cells (λ p. not (is_in_some runs.now p)) }
+    ensures count { result + cells_of runs.now ≡ cells }
+{
+    cells - cells_in(runs, cells)
+}
+
+// How many cells the runs have in all.
+fn cells_in(runs: &[Block], size: u32) -> u32
+    requires { AreRuns 0 size runs.now }
+    ensures sum { result ≡ cells_of runs.now }
+    ensures few { result ≤ size }
+{
+    let mut cells = 0;
+    for run in runs {
+        cells += run.size;
+    }
+    cells
+}
+
 // The address of the first run of that size or more.
 fn first_long(runs: &[Block], size: u32) -> Option<u32>
     ensures { result ≡ option_map (λ r. r.at) (find (λ r. nat_le size r.size) runs.now) }
@@ -158,6 +231,33 @@ mod tests {
         assert_eq!(rt; blocks.fit(60), Some(40));
         assert_eq!(rt; (copy.free_len(), copy.filled()), (2, 80));
         assert_eq!(rt; copy.free_at(1), Block { at: 90, size: 10 });
+        Ok(())
+    }
+
+    #[test]
+    fn runs_are_taken_up_again(rt: HostRuntime) -> Result<(), Fail> {
+        let runs = [Block { at: 10, size: 40 }, Block { at: 60, size: 40 }];
+        assert_eq!(rt; filled_of(&runs, 100), 20);
+        assert_eq!(rt;
+            (fit_in(&runs, 100, 40), fit_in(&runs, 100, 41)),
+            (Some(10), None)
+        );
+        let blocks = Blocks::of_runs(rt.alloc(), 100, &runs)?;
+        assert_eq!(rt;
+            (blocks.filled(), blocks.free_len(), blocks.fit(40)),
+            (20, 2, Some(10))
+        );
+        let mut again = Blocks::full(rt.alloc(), 7);
+        assert_eq!(rt;
+            (again.filled(), again.free_len(), again.fit(1)),
+            (7, 0, None)
+        );
+        again.reserve(4)?;
+        again.refill(100, &runs);
+        assert_eq!(rt;
+            (again.filled(), again.free_len(), again.fit(40)),
+            (20, 2, Some(10))
+        );
         Ok(())
     }
 }

@@ -1,0 +1,13 @@
+pub mod Marked
+pub mod YardMoves
+pub mod Shadowing
+pub mod Yarding
+pub mod Happening
+pub mod Owning
+pub mod Rooms
+pub mod Walking
+pub mod Stepping
+pub mod Starting
+pub mod Finishing
+pub mod Running
+pub mod Crowds

@@ -1,0 +1,125 @@
+//! Findings.
+
+ghost use Rattle.std.specs.Prelude.{◌≡◌, IfOk};
+
+use crate::scratch::Notes;
+use read_sets::Reads;
+use std::marker::Model;
+use tierra_model::{Creature, EventList, OutOfMemory, Settings};
+
+/// What a quantum that ran alone found: the record of its creature before and after, what it read, and its events in
+/// order. It stands: who runs the quantum on what was read finds just this.
+#[derive(Drop)]
+pub struct Finding {
+    settings: Settings,
+    quantum: u64,
+    before: Creature,
+    reads: Reads,
+    events: EventList,
+    after: Creature,
+}
+
+impl Model for Finding {
+    ghost use Rattle.tierra_model.specs.Findings as findings;
+    ghost use Rattle.quantum_run.specs.Found.{Kept};
+
+    ghost Value = { findings.Finding };
+
+    ghost view = { λ f. record { settings = f.settings; quantum = f.quantum; before = f.before; reads = f.reads.reads; events = f.events; after = f.after } };
+
+    ghost invariant = { λ f. Kept (record { settings = f.settings; quantum = f.quantum; before = f.before; reads = f.reads.reads; events = f.events; after = f.after }) };
+}
+
+ghost use Rattle.quantum_run.specs.Found.{Kept};
+
+impl Finding {
+    pub(crate) fn of(
+        settings: Settings,
+        quantum: u64,
+        before: Creature,
+        reads: Reads,
+        events: EventList,
+        after: Creature,
+    ) -> Finding
+        requires { Kept (record { settings = settings; quantum = quantum; before = before; reads = reads.reads; events = events; after = after }) }
+        ensures { result ≡ record { settings = settings; quantum = quantum; before = before; reads = reads.reads; events = events; after = after } }
+    {
+        Finding {
+            settings,
+            quantum,
+            before,
+            reads,
+            events,
+            after,
+        }
+    }
+
+    // The room of what was noted.
+    pub(crate) fn into_notes(self) -> Notes {
+        Notes {
+            reads: self.reads,
+            events: self.events.items,
+        }
+    }
+
+    /// The settings of the world in which it ran.
+    pub fn settings(&self) -> &Settings
+        ensures { result.now ≡ self.now.settings }
+    {
+        &self.settings
+    }
+
+    /// The number of the quantum.
+    pub fn quantum(&self) -> u64
+        ensures is { result ≡ self.now.quantum }
+        ensures kept { Kept self.now }
+    {
+        self.quantum
+    }
+
+    /// The record of the creature before the quantum.
+    pub fn before(&self) -> &Creature
+        ensures { result.now ≡ self.now.before }
+    {
+        &self.before
+    }
+
+    /// What the quantum read.
+    pub fn reads(&self) -> &Reads
+        ensures is { result.now.reads ≡ self.now.reads }
+        ensures kept { Kept self.now }
+    {
+        &self.reads
+    }
+
+    /// What happened in it, in order.
+    pub fn events(&self) -> &EventList
+        ensures { result.now ≡ self.now.events }
+    {
+        &self.events
+    }
+
+    /// The record after it.
+    pub fn after(&self) -> &Creature
+        ensures { result.now ≡ self.now.after }
+    {
+        &self.after
+    }
+
+    /// Another finding of the same.
+    pub fn copy(&self) -> Result<Finding, OutOfMemory>
+        ensures { IfOk result (λ f. f ≡ self.now) }
+    {
+        let events = EventList {
+            items: self.events.items.clone()?,
+        };
+        Ok(Finding {
+            settings: self.settings,
+            quantum: self.quantum,
+            before: self.before,
+            reads: self.reads.copy()?,
+            events,
+            after: self.after,
+        })
+    }
+}

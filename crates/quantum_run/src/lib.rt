@@ -1,0 +1,16 @@
+//! One quantum, run alone on an unchanging version of the soup, and what it found.
+#![tactic(auto)]
+
+mod cells;
+mod finding;
+mod free_cells;
+mod job;
+mod on_scene;
+mod scratch;
+mod standings;
+mod workspace;
+mod yard;
+
+pub use finding::Finding;
+pub use job::Job;
+pub use workspace::{Workspace, run_quantum};

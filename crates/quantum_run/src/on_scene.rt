@@ -1,0 +1,386 @@
+//! A quantum that runs in a scene.
+
+ghost use Rattle.std.specs.Prelude.{◌≡◌, ◌<◌, ◌^◌, vec_capacity, vec_len};
+ghost use Rattle.quantum_run.specs.OnScene.{events_after, yard_after};
+
+use crate::cells::{Cells, Mark};
+use crate::finding::Finding;
+use crate::free_cells::FreeCells;
+use crate::job::Job;
+use crate::scratch::{Copies, Notes};
+use crate::standings::Standings;
+use crate::yard::first_other;
+use mutation_streams::Draws;
+use quantum_core::Ground;
+use std::marker::Model;
+use std::sync::Arc;
+use std::sync::ledger::Ledger;
+use step_count::Steps;
+use tierra_model::{
+    Act, Block, Creature, Event, EventList, FreeList, OutOfMemory, Settings, Standing, View, Yard,
+};
+
+/// The scene of a job, in which its quantum runs, and what the quantum notes.
+#[derive(Drop)]
+pub(crate) struct OnScene<'a> {
+    job: &'a Job,
+    front: Creature,
+    cells: Cells<'a>,
+    events: Vec<Event>,
+    free: FreeCells<'a>,
+    yard: Standings<'a>,
+    free_noted: bool,
+    yard_noted: bool,
+    newborns: u64,
+}
+
+impl<'a> Model for OnScene<'a> {
+    ghost use Rattle.std.specs.Prelude.{◌≡◌, ◌-◌, vec_capacity, vec_len};
+    ghost use Rattle.quantum_run.specs.OnScene.{SceneFields};
+
+    ghost Value = { SceneFields };
+
+    ghost view = { λ s. record {
+      run = record {
+        start = s.job.now;
+        now = record { settings = s.job.now.settings; quanta = s.job.now.quanta; front = s.front; soup = s.cells.now; free = s.free.free; yard = s.yard.items };
+        cells = s.cells.reads.cells;
+        free_noted = s.free_noted;
+        yard_noted = s.yard_noted;
+        events = s.events.items;
+        newborns = s.newborns;
+      };
+      known = s.cells.known;
+      own = s.cells.own;
+      daughter = s.cells.daughter;
+      size = s.free.size;
+      events_room = vec_capacity s.events - vec_len s.events;
+      yard_room = s.yard.room;
+      blocks_room = s.free.spare;
+    } };
+
+    ghost invariant = { λ s. s.cells.start ≡ s.job.now.soup };
+}
+
+ghost use Rattle.std.specs.Prelude.{◌≤◌, ◌*◌, ◌+◌, IfOk, length};
+ghost use Rattle.std.specs.Arc.{arc_value};
+ghost use Rattle.tierra_model.proofs.Each.{Each};
+ghost use Rattle.quantum_run.specs.Marks.{Before, NotAfter};
+ghost use Rattle.tierra_model.specs.Findings.{finding_of};
+ghost use Rattle.tierra_model.specs.SceneRun.{run_in_scene, run_start};
+ghost use Rattle.quantum_run.specs.OnScene.{SceneReady};
+
+impl<'a> OnScene<'a> {
+    /// The scene before its quantum, with all memory for so many instructions. The marks are those of turns before.
+    pub(crate) fn new(
+        job: &'a Job,
+        slice: u32,
+        marks: Vec<Mark>,
+        turn: u32,
+        copies: Copies,
+        notes: Notes,
+    ) -> Result<OnScene<'a>, OutOfMemory>
+        requires few { slice ≤ 10000 }
+        requires size { length marks.items ≡ job.now.settings.soup_size }
+        requires fresh { Each (Before turn) marks.items }
+        ensures run { IfOk result (λ s. s.run ≡ run_start job.now) }
+        ensures ready { IfOk result (λ s. SceneReady s (4 * slice + 1)) }
+    {
+        let front = *job.front();
+        let size = job.settings().soup_size;
+        let living = job.standings().len() as u32;
+        let more = 4 * slice + 1;
+        let yard = Standings::begin(job.standings(), copies.yard, more)?;
+        let free = FreeCells::begin(job.free(), size, copies.free, 2 * living + more)?;
+        let notes = notes.emptied(size, living + more)?;
+        Ok(OnScene {
+            job,
+            front,
+            cells: Cells::begin(
+                job.cells(),
+                marks,
+                turn,
+                notes.reads,
+                front.own,
+                front.daughter,
+            ),
+            events: notes.events,
+            free,
+            yard,
+            free_noted: false,
+            yard_noted: false,
+            newborns: 0,
+        })
+    }
+
+    /// What the quantum found, once it has run; the marks, none of a turn after the one that is given; and the room of the
+    /// copies.
+    pub(crate) fn into_finding(
+        self,
+        free: Arc<FreeList>,
+        yard: Arc<Yard>,
+    ) -> (Finding, Vec<Mark>, u32, Copies)
+        requires free { arc_value free ≡ self.run.start.free }
+        requires yard { arc_value yard ≡ self.run.start.yard }
+        requires living { length self.run.start.yard < 2 ^ 30 }
+        requires ready { SceneReady self 0 }
+        requires run { self.run ≡ run_in_scene self.run.start }
+        ensures finding { result.0 ≡ finding_of self.entry.run.start }
+        ensures marks { Each (NotAfter result.2) result.1.items }
+    {
+        let (mut reads, marks, turn) = self.cells.into_parts();
+        reads.note_lists(
+            some_if(self.free_noted, free),
+            some_if(self.yard_noted, yard),
+        );
+        let events = EventList { items: self.events };
+        let finding = Finding::of(
+            *self.job.settings(),
+            self.job.quantum(),
+            *self.job.front(),
+            reads,
+            events,
+            self.front,
+        );
+        let copies = Copies {
+            free: self.free.into_own(),
+            yard: self.yard.into_own(),
+        };
+        (finding, marks, turn, copies)
+    }
+}
+
+ghost use Rattle.tierra_model.specs.Reads.{some_if};
+
+// The value, where it is wanted.
+fn some_if<T: Drop>(is: bool, value: T) -> Option<T>
+    ensures { result ≡ some_if is value }
+{
+    if is { Some(value) } else { None }
+}
+
+impl<'a> Ground for OnScene<'a> {
+    ghost use Rattle.tierra_model.specs.SceneRun.{SceneRun, scene_machine};
+    ghost use Rattle.std.specs.Prelude.{◌+◌};
+    ghost use Rattle.quantum_run.specs.OnScene.{SceneReady};
+    ghost use Rattle.quantum_run.specs.ReadyLaws.{fewer};
+
+    ghost State = { SceneRun };
+
+    ghost machine = { scene_machine };
+
+    ghost state = { λ v. v.run };
+
+    ghost frame = { λ v. record { settings = v.run.start.settings; quantum = v.run.start.quanta + 1 } };
+
+    ghost Ready = { SceneReady };
+
+    ghost Refusal = { ⊥ };
+
+    ghost ready_fewer = { fewer };
+
+    fn front(&self) -> &Creature {
+        &self.front
+    }
+
+    fn room_for(&self, size: u32) -> Option<u32> {
+        let settings = self.job.settings();
+        let filled = u64::from(self.free.filled());
+        let most = u64::from(settings.fill_percent) * u64::from(settings.soup_size);
+        if (filled + u64::from(size)) * 100 <= most {
+            self.free.fit(size)
+        } else {
+            None
+        }
+    }
+
+    fn reaper_len(&self) -> u32 {
+        self.yard.items().len() as u32
+    }
+
+    fn others(&self) -> u32 {
+        self.yard.items().len() as u32 - 1
+    }
+
+    fn victim(&mut self) -> Option<u32> {
+        first_other(self.yard.items(), self.front.id)
+    }
+
+    fn ask_free(&mut self) {
+        self.free_noted = true;
+    }
+
+    fn ask_reaper(&mut self) {
+        self.yard_noted = true;
+    }
+
+    fn flip(&mut self, at: u32, bit: u8) {
+        let value = flip_bit(self.cells.get(at), bit);
+        self.cells.write(at, value);
+        self.events.push_reserved(Event::Write { at, value });
+    }
+
+    fn step<L: Ledger>(
+        &mut self,
+        draws: &Draws,
+        i: u32,
+        settings: &Settings,
+        steps: &mut Steps<L>,
+    ) -> Act {
+        let act = cpu_core::step(&mut self.front, &mut self.cells, draws, i, settings, steps);
+        do_act(&mut self.events, &mut self.yard, &self.front, act);
+        act
+    }
+
+    fn err(&mut self) {
+        self.front.flag = 1;
+        self.front.errors += 1;
+        self.yard.show(&self.front);
+        self.yard.move_up(&self.front);
+        self.events.push_reserved(Event::Err);
+    }
+
+    fn good(&mut self) {
+        self.yard.move_down(&self.front);
+        self.events.push_reserved(Event::Good);
+    }
+
+    fn give_up(&mut self) -> Result<(), OutOfMemory> {
+        let block = self.front.daughter.unwrap();
+        self.free.give_back(block);
+        self.front.daughter = None;
+        self.front.moved = 0;
+        self.cells.set_daughter(None);
+        self.yard.show(&self.front);
+        self.events.push_reserved(Event::GiveUp);
+        Ok(())
+    }
+
+    fn take(&mut self, block: Block) -> Result<(), OutOfMemory> {
+        self.free.take(block);
+        take_up(&mut self.front, block);
+        self.cells.set_daughter(Some(block));
+        self.yard.show(&self.front);
+        self.events.push_reserved(Event::Mal {
+            at: block.at,
+            size: block.size,
+        });
+        Ok(())
+    }
+
+    fn reap(&mut self, place: u32) -> Result<(), OutOfMemory> {
+        let dead = self.yard.remove(place);
+        give_back(&mut self.free, &dead);
+        self.events.push_reserved(Event::Reap { place });
+        Ok(())
+    }
+
+    fn bear(&mut self) -> Result<(), OutOfMemory> {
+        let own = self.front.daughter.unwrap();
+        self.newborns += 1;
+        self.yard.push(Standing {
+            id: number_of_newborn(self.newborns),
+            errors: 0,
+            own,
+            daughter: None,
+        });
+        self.events.push_reserved(Event::Divide {
+            ran: self.front.ran,
+            moved: self.front.moved,
+        });
+        self.front.daughter = None;
+        self.front.moved = 0;
+        self.front.ran = 0;
+        self.front.bred += 1;
+        self.cells.set_daughter(None);
+        self.yard.show(&self.front);
+        Ok(())
+    }
+}
+
+ghost use Rattle.std.specs.Prelude.{◌||◌, Some, false, true, ℕ};
+ghost use Rattle.tierra_model.specs.Blocks.{is_in, is_in_daughter};
+ghost use Rattle.tierra_model.specs.FreeList.{is_in_some, runs_of};
+ghost use Rattle.tierra_model.specs.Yard.{stand_in};
+
+// The number under which newborn `k` of the quantum stands in the yard.
+fn number_of_newborn(k: u64) -> u64
+    requires { k < 2 ^ 60 }
+    ensures { result ≡ stand_in k }
+{
+    (1 << 63) + k
+}
+
+// The blocks of a creature that died are given back.
+fn give_back(free: &mut FreeCells, dead: &Standing)
+    requires own { dead.now.own.at + dead.now.own.size ≤ free.old.size }
+    requires daughter { (p : ℕ) → is_in_daughter dead.now.daughter p ≡ true → p < free.old.size }
+    requires owned { (p : ℕ) → is_in dead.now.own p ≡ true → is_in_some free.old.free p ≡ false }
+    requires then { (p : ℕ) → is_in_daughter dead.now.daughter p ≡ true → is_in_some (runs_of free.old.size (λ q. is_in_some free.old.free q || is_in dead.now.own q)) p ≡ false }
+    requires room { 2 ≤ free.old.spare }
+    ensures free { free.new.free ≡ runs_of free.old.size (λ p. is_in_some free.old.free p || (is_in dead.now.own p || is_in_daughter dead.now.daughter p)) }
+    ensures size { free.new.size ≡ free.old.size }
+    ensures room { free.old.spare ≤ free.new.spare + 2 }
+{
+    free.give_back(dead.own);
+    give_back_daughter(free, dead.daughter);
+}
+
+fn give_back_daughter(free: &mut FreeCells, daughter: Option<Block>)
+    requires runs { free.old.free ≡ runs_of free.old.size (λ p. is_in_some free.old.free p) }
+    requires within { (p : ℕ) → is_in_daughter daughter p ≡ true → p < free.old.size }
+    requires owned { (p : ℕ) → is_in_daughter daughter p ≡ true → is_in_some free.old.free p ≡ false }
+    requires room { 0 < free.old.spare }
+    ensures size { free.new.size ≡ free.old.size }
+    ensures free { free.new.free ≡ runs_of free.old.size (λ p. is_in_some free.old.free p || is_in_daughter daughter p) }
+    ensures room { free.old.spare ≤ free.new.spare + 1 }
+{
+    if let Some(block) = daughter {
+        free.give_back(block);
+    }
+}
+
+ghost use Rattle.tierra_model.specs.declared.events.Event.TheVariants as event;
+ghost use Rattle.tierra_model.specs.Events.{record_after};
+
+// The block taken is the daughter block.
+fn take_up(front: &mut Creature, block: Block)
+    requires { block.at < 2 ^ 31 }
+    ensures { front.new ≡ record_after (event.Mal block.at block.size) front.old }
+{
+    front.daughter = Some(block);
+    front.moved = 0;
+    front.ax = block.at as i32;
+}
+
+// A write and an error are done.
+fn do_act(events: &mut Vec<Event>, yard: &mut Standings, front: &Creature, act: Act)
+    requires { vec_len events.old < vec_capacity events.old }
+    ensures events { events.new.items ≡ events_after act events.old.items }
+    ensures yard { yard.new.items ≡ yard_after act front.now yard.old.items }
+    ensures events_len { vec_len events.new ≤ vec_len events.old + 1 }
+    ensures events_room { vec_capacity events.new ≡ vec_capacity events.old }
+    ensures yard_room { yard.old.room ≤ yard.new.room }
+{
+    match act {
+        Act::Wrote { at, value } => events.push_reserved(Event::Write { at, value }),
+        Act::Erred => {
+            yard.show(front);
+            yard.move_up(front);
+            events.push_reserved(Event::Err);
+        }
+        Act::Plain | Act::Mal { .. } | Act::Divide => {}
+    }
+}
+
+ghost use Rattle.tierra_model.specs.Step.{flip_bit};
+
+// The value with the bit flipped.
+fn flip_bit(value: u8, bit: u8) -> u8
+    requires value { value < 32 }
+    requires bit { bit < 5 }
+    ensures flip { result ≡ flip_bit value (Some bit) }
+    ensures below { result < 32 }
+{
+    value ^ (1 << bit)
+}
