@@ -1,0 +1,9 @@
+pub mod GivingLemmas
+pub mod Stashes
+pub mod Beginning
+pub mod JobLemmas
+pub mod Committing
+pub mod Keeping
+pub mod Claiming
+pub mod SettingsLemmas
+pub mod ShownLemmas

@@ -1,0 +1,111 @@
+//! A book hands out jobs, and stands behind the turn lock.
+
+mod commits;
+mod findings;
+
+ghost use Rattle.std.specs.Prelude.{◌≡◌, ◌^◌, ◌<◌, IfOk, length};
+ghost use Rattle.tierra_model.specs.Ranges.{IsCode};
+
+use crate::{Advanced, Book, Claim};
+use quantum_run::{Finding, Job};
+use std::alloc::Global;
+use std::marker::Brand;
+use std::process::Abort;
+use std::sync::Wait;
+use std::sync::ledger::{Blank, Ledger};
+use std::test::Fail;
+use step_count::Steps;
+use tierra_model::{Code, Inoculum, OutOfMemory, SeedList, Setup, grow_setup};
+use turn_lock::{Seat, TurnLock};
+
+fn two_cells(alloc: Global) -> Result<Code, OutOfMemory>
+    ensures code { IfOk result (λ code. IsCode code) }
+    ensures long { IfOk result (λ code. length code ≡ 2) }
+{
+    let mut items = Vec::new(alloc);
+    items.push(9)?;
+    items.push(26)?;
+    Ok(Code { items })
+}
+
+// A hundred cells, with one creature at cell 5.
+fn small_setup(alloc: Global) -> Result<Setup, OutOfMemory> {
+    let mut settings = grow_setup(alloc, two_cells(alloc)?)?.settings;
+    settings.soup_size = 100;
+    let code = two_cells(alloc)?;
+    let mut items = Vec::new(alloc);
+    items.push(Inoculum { at: 5, code })?;
+    let creatures = SeedList { items };
+    Ok(Setup {
+        settings,
+        creatures,
+    })
+}
+
+fn counted<R: Abort, L: Ledger>(rt: &R, alloc: Global, blank: Blank) -> Result<(), Fail>
+    requires name { blank.name ≡ L.name }
+    requires parts { blank.parts ≡ L.parts }
+    requires some { 0 < L.parts }
+{
+    let mut steps = Steps::<L>::start(blank);
+    let mut book = Book::begin(alloc, small_setup(alloc)?, 2, 4)?;
+    let Claim::Job(job) = book.claim(alloc) else {
+        panic!(rt; "no job")
+    };
+    assert_eq!(rt; (job.quantum(), job.front().id), (1, 1));
+    assert!(rt; matches!(book.claim(alloc), Claim::Full));
+    assert_eq!(rt; book.advance(alloc, 1, &mut steps), Advanced::Committed);
+    assert_eq!(rt; (book.committed(), book.quanta()), (1, 2));
+    assert_eq!(rt; book.history().items.len(), 1);
+    assert_eq!(rt; book.world().births(), 0);
+    book.stop();
+    assert!(rt; matches!(book.claim(alloc), Claim::Stopped));
+    Ok(())
+}
+
+#[test]
+fn a_book_hands_out_jobs(rt: HostRuntime) -> Result<(), Fail> {
+    counted::<_, Brand>(&rt, rt.alloc(), Blank::new(1))
+}
+
+// One quantum is committed.
+fn advance_once<R: Wait, L: Ledger>(
+    rt: &R,
+    alloc: Global,
+    lock: &TurnLock<Book>,
+    seat: Seat,
+    steps: &mut Steps<L>,
+) -> Seat
+    requires lock { seat.lock ≡ lock.now }
+    requires room { seat.turns < 2 ^ 40 }
+    ensures lock { result.lock ≡ seat.lock }
+{
+    let caller = seat.caller();
+    let (turn, mut book) = lock.take(rt, seat);
+    let _answer = book.advance(alloc, caller, steps);
+    lock.give(turn, book)
+}
+
+// A finding is offered, and a job claimed.
+fn offer_and_claim<R: Wait, L: Ledger>(
+    rt: &R,
+    alloc: Global,
+    lock: &TurnLock<Book>,
+    seat: Seat,
+    finding: Finding,
+    steps: &mut Steps<L>,
+) -> (Seat, Option<Job>)
+    requires lock { seat.lock ≡ lock.now }
+    requires room { seat.turns < 2 ^ 40 }
+    ensures lock { result.0.lock ≡ seat.lock }
+{
+    let caller = seat.caller();
+    let (turn, mut book) = lock.take(rt, seat);
+    let _answer = book.offer(alloc, finding, caller, steps);
+    let claim = book.claim(alloc);
+    let seat = lock.give(turn, book);
+    match claim {
+        Claim::Job(job) => (seat, Some(job)),
+        _ => (seat, None),
+    }
+}
