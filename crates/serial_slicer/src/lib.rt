@@ -5,8 +5,9 @@ mod mal;
 mod slice;
 mod sole;
 
-ghost use Rattle.std.specs.Prelude.{◌≡◌, ◌<◌, ◌≤◌, IfOk};
+ghost use Rattle.std.specs.Prelude.{◌≡◌, ◌+◌, ◌<◌, ◌≤◌, IfOk};
 ghost use Rattle.tierra_model.specs.Serial.{serial};
+ghost use Rattle.serial_slicer.specs.Onward.{after};
 
 use crate::slice::run_quantum;
 use crate::sole::Sole;
@@ -22,25 +23,32 @@ pub fn run_serial(alloc: Global, setup: &Setup, n: u64) -> Result<World, OutOfMe
     requires { n ≤ 4000000 }
     ensures { IfOk result (λ w. w.world ≡ serial setup.now n) }
 {
-    counted::<Brand>(alloc, setup, n, Blank::new(1))
+    run_on(alloc, World::start(alloc, setup)?, n)
+}
+
+/// The world after `n` more quanta.
+pub fn run_on(alloc: Global, world: World, n: u64) -> Result<World, OutOfMemory>
+    requires { world.world.quanta + n ≤ 4000000 }
+    ensures { IfOk result (λ w. w.world ≡ after n world.world) }
+{
+    counted::<Brand>(alloc, world, n, Blank::new(1))
 }
 
 // The same, with an account of the instructions that only contracts see.
 fn counted<L: Ledger>(
     alloc: Global,
-    setup: &Setup,
+    world: World,
     n: u64,
     blank: Blank,
 ) -> Result<World, OutOfMemory>
-    requires few { n ≤ 4000000 }
+    requires few { world.world.quanta + n ≤ 4000000 }
     requires name { blank.name ≡ L.name }
     requires parts { blank.parts ≡ L.parts }
     requires some { 0 < L.parts }
-    ensures { IfOk result (λ w. w.world ≡ serial setup.now n) }
+    ensures { IfOk result (λ w. w.world ≡ after n world.world) }
 {
-    let settings = setup.settings;
-    let running = World::start(alloc, setup)?.begin();
-    let mut sole = Sole::new(running)?;
+    let settings = *world.settings();
+    let mut sole = Sole::new(world.begin())?;
     let mut steps = Steps::<L>::start(blank);
     for _quantum in 0..n {
         run_quantum(alloc, &mut sole, &settings, &mut steps)?;

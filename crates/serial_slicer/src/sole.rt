@@ -19,6 +19,9 @@ use std::marker::Model;
 use tierra_model::{Block, Creature, OutOfMemory, Settings, View};
 use world_core::Running;
 
+/// How many cells are made ready together.
+const PAGE: u32 = 4096;
+
 /// A running world that is nowhere else, so all its cells can be set: in the blocks of the creature whose turn it is.
 #[derive(Drop)]
 pub(crate) struct Sole {
@@ -98,9 +101,9 @@ impl Sole {
         ensures { IfOk result (λ s. s.world ≡ running.world) }
     {
         let mut running = running;
-        let size = running.settings().soup_size;
-        for at in 0..size {
-            running.ready(at)?;
+        let last = (running.settings().soup_size - 1) / PAGE;
+        for page in 0..last + 1 {
+            running.ready(page * PAGE)?;
         }
         let none = Block { at: 0, size: 0 };
         Ok(Sole {

@@ -1,9 +1,22 @@
-use Rattle.std.proofs.Common.{◌≡◌, ◌∙◌, below_more, true}
-use Rattle.world_core.specs.Running.{can_be_set}
+use Rattle.std.proofs.Common.{◌≡◌, ◌∙◌, ◌+◌, ◌*◌, ◌/◌, ◌<◌, ◌≤◌, ℕ, false, true, ap, arith, inl, inr}
+use Rattle.std.proofs.lemmas.Bool.Decides.{leb_tells}
+use Rattle.std.specs.Prelude.{slice_index_or}
+use Rattle.world_core.specs.Running.{WorldFields, can_be_set}
+use Rattle.soup_cells.specs.Cells.{is_ready}
 use Rattle.serial_slicer.proofs.sole.Sole.new.Goals as goal
 
-pub loop-at-preserved : goal.loop-at-preserved
-loop-at-preserved c = record {
-  world = c.ready.ensures.world ∙ c.loop-at.invariant.world;
-  ready = below_more (λ p. can_be_set c.ready.new.self p ≡ true) c.loop-at.at (λ p below. c.ready.ensures.kept p (c.loop-at.invariant.ready p below)) c.in_ok-ready.ensures.ok;
+-- the cells of a page are ready together
+ready_together : (h : WorldFields) (page p : ℕ) → page * 4096 ≤ p → p < (page + 1) * 4096 → can_be_set h (page * 4096) ≡ true → can_be_set h p ≡ true
+unfolding is_ready
+ready_together h page p from below here =
+    let same : p / 4096 ≡ page * 4096 / 4096 = omega arith in
+    ap (λ (k : ℕ). slice_index_or h.own k false) same ∙ here
+
+pub loop-page-preserved : goal.loop-page-preserved
+loop-page-preserved c = record {
+  world = c.in_ok-ready.ensures.world ∙ c.loop-page.invariant.world;
+  ready = λ p below. elim (leb_tells (c.loop-page.page * 4096) p) [
+    | inl from ↦ ready_together c.ready.new.self c.loop-page.page p from.1 below c.in_ok-ready.ensures.ok
+    | inr before ↦ c.in_ok-ready.ensures.kept p (c.loop-page.invariant.ready p before.1)
+  ];
 }

@@ -1,0 +1,225 @@
+//! The curve of a run.
+
+ghost use Rattle.std.specs.Prelude.{All, ◌≡◌, ◌+◌, ◌-◌, ◌<◌, ◌≤◌, ◌^◌, ◌++◌, ◌∷◌, [], ℕ, IfOk, OnOk, filter, if◌then◌else◌, length, map, not};
+ghost use Rattle.std.specs.List.{flat_map, range_with_len};
+ghost use Rattle.tierra_model.specs.Counting.{times_in};
+ghost use Rattle.tierra_model.specs.Serial.{serial};
+ghost use Rattle.tierra_model.specs.Setups.{IsSetup};
+ghost use Rattle.run_log.specs.declared.record.Record.TheVariants as record_of;
+ghost use Rattle.run_log.specs.Curve.{counts_of, curve_text, is_shown, lives, point_line, record_line, run_records, shown};
+ghost use Rattle.run_log.specs.Records.{living_in, point_of, quantum_of, up_to};
+
+use crate::log::{Log, Point};
+use crate::record::Record;
+use serial_slicer::run_on;
+use std::alloc::Global;
+use tierra_model::{OutOfMemory, SeedList, Setup, Text};
+use world_core::World;
+
+/// The text of a run's births and deaths, and of its counts at each multiple of `every` and at the end.
+pub fn curve(alloc: Global, setup: &Setup, quanta: u64, every: u64) -> Result<Text, OutOfMemory>
+    requires few { quanta ≤ 4000000 }
+    requires some { 1 ≤ every }
+    ensures { IfOk result (λ text. text ≡ curve_text setup.now quanta every) }
+{
+    let log = log_of_run(alloc, setup, quanta)?;
+    let mut items = Vec::new(alloc);
+    add_records(alloc, &mut items, &log)?;
+    add_points(alloc, &mut items, &log, quanta, every)?;
+    Ok(Text { items })
+}
+
+// The births and deaths of the first `quanta` quanta.
+fn log_of_run(alloc: Global, setup: &Setup, quanta: u64) -> Result<Log, OutOfMemory>
+    requires { quanta ≤ 4000000 }
+    ensures records { IfOk result (λ log. log.records ≡ run_records setup.now quanta) }
+    ensures counts { IfOk result (λ log. (q : ℕ) → q ≤ quanta → point_of log.inoculated (up_to q log.records) ≡ counts_of (serial setup.now q)) }
+{
+    let inoculated = count_of(setup);
+    let mut world = World::start(alloc, setup)?;
+    let mut log = Log::new(alloc, inoculated);
+    let mut living = numbers(alloc, inoculated)?;
+    for before in 0..quanta {
+        let first = inoculated + world.births() + 1;
+        world = run_on(alloc, world, 1)?;
+        let next = inoculated + world.births() + 1;
+        note_births(&mut log, &mut living, before + 1, first, next)?;
+        living = note_deaths(alloc, &mut log, &living, &world, before + 1)?;
+    }
+    Ok(log)
+}
+
+// How many creatures there are at the start.
+fn count_of(setup: &Setup) -> u64
+    ensures count { result ≡ length setup.now.creatures }
+    ensures setup { IsSetup setup.now }
+{
+    let seeds: &SeedList = &setup.creatures;
+    seeds.items.len() as u64
+}
+
+// The numbers from 1 on.
+fn numbers(alloc: Global, count: u64) -> Result<Vec<u64>, OutOfMemory>
+    requires { count < 2 ^ 60 }
+    ensures { IfOk result (λ v. v.items ≡ range_with_len 1 count) }
+{
+    let mut items = Vec::new(alloc);
+    for before in 0..count {
+        items.push(before + 1)?;
+    }
+    Ok(items)
+}
+
+// Notes the births of the quantum, who got the numbers from `first` to below `next`; `living` are those who live.
+fn note_births(
+    log: &mut Log,
+    living: &mut Vec<u64>,
+    quantum: u64,
+    first: u64,
+    next: u64,
+) -> Result<(), OutOfMemory>
+    requires order { All (λ r. quantum_of r ≤ quantum) log.old.records }
+    requires living { living.old.items ≡ living_in log.old.inoculated log.old.records }
+    requires fresh { (id : ℕ) → first ≤ id → times_in living.old.items id ≡ 0 }
+    requires range { first ≤ next }
+    ensures inoculated { log.new.inoculated ≡ log.old.inoculated }
+    ensures living { OnOk result (living.new.items ≡ living.old.items ++ range_with_len first (next - first)) }
+    ensures records { OnOk result (log.new.records ≡ log.old.records ++ map (λ id. record_of.Birth quantum id) (range_with_len first (next - first))) }
+{
+    for id in first..next {
+        log.reserve(1)?;
+        log.born(quantum, id);
+        living.push(id)?;
+    }
+    Ok(())
+}
+
+// Notes the deaths of the quantum, among those who lived; the answer is who lives in the world.
+fn note_deaths(
+    alloc: Global,
+    log: &mut Log,
+    living: &[u64],
+    world: &World,
+    quantum: u64,
+) -> Result<Vec<u64>, OutOfMemory>
+    requires order { All (λ r. quantum_of r ≤ quantum) log.old.records }
+    requires living { living.now ≡ living_in log.old.inoculated log.old.records }
+    requires once { (id : ℕ) → times_in living.now id ≤ 1 }
+    ensures inoculated { log.new.inoculated ≡ log.old.inoculated }
+    ensures living { IfOk result (λ left. left.items ≡ filter (lives world.now.world) living.now) }
+    ensures records { IfOk result (λ left. log.new.records ≡ log.old.records ++ map (λ id. record_of.Death quantum id) (filter (λ id. not (lives world.now.world id)) living.now)) }
+{
+    let mut left = Vec::new(alloc);
+    for id in living {
+        keep_or_note(log, &mut left, world, quantum, *id)?;
+    }
+    Ok(left)
+}
+
+// Who lives in the world goes to `left`; of who does not, the death is noted.
+fn keep_or_note(
+    log: &mut Log,
+    left: &mut Vec<u64>,
+    world: &World,
+    quantum: u64,
+    id: u64,
+) -> Result<(), OutOfMemory>
+    requires order { All (λ r. quantum_of r ≤ quantum) log.old.records }
+    requires present { 0 < times_in (living_in log.old.inoculated log.old.records) id }
+    ensures inoculated { log.new.inoculated ≡ log.old.inoculated }
+    ensures left { OnOk result (left.new.items ≡ (if lives world.now.world id then left.old.items ++ id ∷ [] else left.old.items)) }
+    ensures records { OnOk result (log.new.records ≡ (if lives world.now.world id then log.old.records else log.old.records ++ record_of.Death quantum id ∷ [])) }
+{
+    if lives(world, id) {
+        left.push(id)?;
+        return Ok(());
+    }
+    log.reserve(1)?;
+    log.died(quantum, id);
+    Ok(())
+}
+
+fn lives(world: &World, id: u64) -> bool
+    ensures { result ≡ lives world.now.world id }
+{
+    world.creature(id).is_some()
+}
+
+// ---- the text
+
+fn add_records(alloc: Global, text: &mut Vec<u8>, log: &Log) -> Result<(), OutOfMemory>
+    ensures { OnOk result (text.new.items ≡ text.old.items ++ flat_map record_line log.now.records) }
+{
+    for place in 0..log.len() {
+        add_record(alloc, text, log.get(place))?;
+    }
+    Ok(())
+}
+
+fn add_record(alloc: Global, text: &mut Vec<u8>, noted: Record) -> Result<(), OutOfMemory>
+    ensures { OnOk result (text.new.items ≡ text.old.items ++ record_line noted) }
+{
+    let line = match noted {
+        Record::Birth { quantum, id } => format!(in alloc; "birth {quantum} {id}\n")?,
+        Record::Death { quantum, id } => format!(in alloc; "death {quantum} {id}\n")?,
+    };
+    text.extend_from_slice(line.as_bytes())
+}
+
+fn add_points(
+    alloc: Global,
+    text: &mut Vec<u8>,
+    log: &Log,
+    quanta: u64,
+    every: u64,
+) -> Result<(), OutOfMemory>
+    requires few { quanta ≤ 4000000 }
+    requires some { 1 ≤ every }
+    ensures { OnOk result (text.new.items ≡ text.old.items ++ flat_map (λ q. point_line q (point_of log.now.inoculated (up_to q log.now.records))) (shown quanta every)) }
+{
+    for quantum in 0..quanta + 1 {
+        add_if_shown(alloc, text, log, quanta, every, quantum)?;
+    }
+    Ok(())
+}
+
+fn add_if_shown(
+    alloc: Global,
+    text: &mut Vec<u8>,
+    log: &Log,
+    quanta: u64,
+    every: u64,
+    quantum: u64,
+) -> Result<(), OutOfMemory>
+    requires { 1 ≤ every }
+    ensures { OnOk result (text.new.items ≡ text.old.items ++ (if is_shown quanta every quantum then point_line quantum (point_of log.now.inoculated (up_to quantum log.now.records)) else [])) }
+{
+    if !is_shown(quanta, every, quantum) {
+        return Ok(());
+    }
+    add_point(alloc, text, quantum, &log.at(quantum))
+}
+
+fn is_shown(quanta: u64, every: u64, quantum: u64) -> bool
+    requires { 1 ≤ every }
+    ensures { result ≡ is_shown quanta every quantum }
+{
+    quantum % every == 0 || quantum == quanta
+}
+
+fn add_point(
+    alloc: Global,
+    text: &mut Vec<u8>,
+    quantum: u64,
+    point: &Point,
+) -> Result<(), OutOfMemory>
+    ensures { OnOk result (text.new.items ≡ text.old.items ++ point_line quantum point.now) }
+{
+    let counts = format!(in alloc;
+        " living {} births {} deaths {}\n",
+        point.living, point.births, point.deaths
+    )?;
+    let head = format!(in alloc; "at {quantum}")?;
+    text.extend_from_slice(head.as_bytes())?;
+    text.extend_from_slice(counts.as_bytes())
+}
