@@ -10,5 +10,5 @@ mod world_dump;
 mod world_report;
 
 pub use bank::{bank_text, saved_line};
-pub use world_dump::dump;
+pub use world_dump::{dump, state_line};
 pub use world_report::report;

@@ -27,7 +27,7 @@ pub fn dump(alloc: Global, world: &World) -> Result<Text, OutOfMemory>
     add_creatures(alloc, &mut items, world)?;
     add_reaper(alloc, &mut items, world)?;
     add_rows(alloc, &mut items, world, size)?;
-    add_state(alloc, &mut items, world)?;
+    items.extend_from_slice(&state_line(alloc, world)?.items)?;
     Ok(Text { items })
 }
 
@@ -215,13 +215,15 @@ fn add_cell(line: &mut String, cell: u8) -> Result<(), OutOfMemory>
 
 // ---- the state
 
-fn add_state(alloc: Global, text: &mut Vec<u8>, world: &World) -> Result<(), OutOfMemory>
-    ensures { OnOk result (text.new.items ≡ text.old.items ++ state_line world.now.world) }
+/// The digest of all that a world is: `state` and the SHA-256 of its state bytes, in lower-case hexadecimal digits.
+pub fn state_line(alloc: Global, world: &World) -> Result<Text, OutOfMemory>
+    ensures { IfOk result (λ text. text ≡ state_line world.now.world) }
 {
     let bytes = world.state_bytes(alloc)?;
     let digest = Sha256::digest(bytes.items.as_slice());
-    text.extend_from_slice(b"state ")?;
-    text.extend_from_slice(hex::encode(alloc, digest.as_slice())?.as_bytes())?;
-    text.push(b'\n')?;
-    Ok(())
+    let mut items = Vec::new(alloc);
+    items.extend_from_slice(b"state ")?;
+    items.extend_from_slice(hex::encode(alloc, digest.as_slice())?.as_bytes())?;
+    items.push(b'\n')?;
+    Ok(Text { items })
 }

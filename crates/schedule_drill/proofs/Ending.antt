@@ -1,0 +1,7 @@
+-- The book is advanced to its end.
+use Rattle.std.proofs.Common.{◌≡◌, ℕ, zero, suc, ◌+◌, ◌-◌, ◌<◌, ◌≤◌, refl, ap, arith}
+use Rattle.commit_book.specs.Books.{BookFields, after_commits}
+
+pub commits-count : (by k : ℕ) (b : BookFields) → (after_commits by k b).committed ≡ b.committed + k
+commits-count by zero b = omega arith
+commits-count by (suc k) b = omega (arith, commits-count by k b)

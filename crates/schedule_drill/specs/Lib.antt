@@ -1,0 +1,4 @@
+pub mod Moves
+pub mod Drill
+pub mod AtBook
+pub mod Text
