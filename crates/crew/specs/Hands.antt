@@ -1,0 +1,45 @@
+-- What a hand is given, and what it answers.
+use Rattle.std.specs.Prelude.{ℕ, ◌≡◌, ◌+◌, ◌<◌, ◌≤◌, List, drop, length, take}
+use Rattle.tierra_model.specs.Genebank.{bank}
+use Rattle.tierra_model.specs.Groups.{GroupFields}
+use Rattle.tierra_model.specs.Setups.{SetupFields}
+use Rattle.crew.specs.declared.hand.Next.{Next}
+use Rattle.crew.specs.declared.hand.Next.TheVariants as next
+
+abbrev pub OnGo : Next → Type 0 → Type 0
+OnGo next.Go P = P
+OnGo next.Halt P = Unit {0}
+
+abbrev pub OnHalt : Next → Type 0 → Type 0
+OnHalt next.Go P = Unit {0}
+OnHalt next.Halt P = P
+
+-- the genebank of a run of n quanta
+abbrev pub run_bank : SetupFields → ℕ → List GroupFields
+run_bank setup n = bank setup (n + 1)
+
+-- they come in it from place k on
+abbrev pub AreNext : SetupFields → ℕ → ℕ → List GroupFields → Type 0
+AreNext setup n k groups = groups ≡ take (length groups) (drop k (run_bank setup n))
+
+-- the hand took more, and halted or not
+abbrev pub HaltsBy : Next → ℕ → Type 0
+HaltsBy next.Go halts = halts ≡ 0
+HaltsBy next.Halt halts = 0 < halts
+
+-- a hand of the run, which has not halted
+pub record IsReady (run : SetupFields × ℕ) (setup : SetupFields) (quanta done halts : ℕ) (Can : Type 0) : Type 0 where
+  pub unhalted : halts ≡ 0
+  pub run_is : run ≡ (setup, quanta)
+  pub within : done ≤ length (run_bank setup quanta)
+  pub can : Can
+
+-- The hand was given groups until this came of it. That it is the same hand at a later time is the last fact.
+pub record WasLed (next : Next) (old_setup new_setup : SetupFields) (old_quanta new_quanta new_done new_halts : ℕ)
+    (Can Goes : Type 0) : Type 0 where
+  pub setup : new_setup ≡ old_setup
+  pub quanta : new_quanta ≡ old_quanta
+  pub halts : HaltsBy next new_halts
+  pub within : new_halts ≡ 0 → new_done ≤ length (run_bank new_setup new_quanta)
+  pub can : new_halts ≡ 0 → Can
+  pub later : Goes

@@ -1,0 +1,21 @@
+//! Workers run coming quanta ahead, and a book commits what they find in slicer order.
+//!
+//! The calling thread is worker 1. Between its turns it hands over the groups of the genebank that are new. When the
+//! workers have ended, it finishes the run by itself.
+#![tactic(auto)]
+
+mod finish;
+mod gate;
+mod hand;
+mod handing;
+mod lead;
+mod runs;
+#[cfg(test)]
+mod tests;
+mod turns;
+mod worker;
+
+pub use gate::{FreeGate, Gate};
+pub use hand::{Hand, Next};
+pub use runs::{Ran, run_crew};
+pub use worker::work;

@@ -1,0 +1,161 @@
+//! The crew.
+
+ghost use Rattle.std.specs.Prelude.{◌≡◌, ◌+◌, ◌-◌, ◌<◌, ◌≤◌, IfOk, OnErr, OnOk, length, true, is_some};
+ghost use Rattle.std.specs.Thread.{IsSync};
+ghost use Rattle.tierra_model.specs.Genebank.{groups_of};
+ghost use Rattle.turn_lock.specs.Seats.{own_of};
+ghost use Rattle.commit_book.specs.Books.{world_of};
+ghost use Rattle.crew.specs.Hands.{AreNext, HaltsBy, IsReady, WasLed, run_bank};
+ghost use Rattle.crew.specs.Rans.{HaltsAsIn, IfEnded, IfHalted};
+ghost use Rattle.crew.specs.Works.{HasWorked, IsFirst, IsOther, IsThere, SpeaksFrom};
+
+use crate::finish::finish;
+use crate::gate::Gate;
+use crate::hand::{Hand, Next};
+use crate::lead::{Led, lead};
+use crate::worker::work;
+use commit_book::Book;
+use std::alloc::Global;
+use std::sync::Wait;
+use std::thread::{Threads, join_mut};
+use tierra_model::OutOfMemory;
+use turn_lock::{Seat, TurnLock};
+
+/// What came of a run.
+#[derive(Drop)]
+pub enum Ran {
+    /// All quanta are committed, and all groups were handed over.
+    Ended(Book),
+    /// The hand halted, and the book is stopped.
+    Halted(Book),
+    OutOfMemory,
+}
+
+// Takes the seat, and works.
+fn work_with<R: Wait, G: Gate>(
+    rt: &R,
+    alloc: Global,
+    lock: &TurnLock<Book>,
+    caller: u32,
+    seat: &mut Option<Seat>,
+    gate: &G,
+) -> Seat
+    requires { IsThere seat.old (IsOther lock.now caller) }
+    ensures { IsOther lock.now caller (record result { turns = 0 }) }
+{
+    let Some(seat) = seat.take() else {
+        unreachable!()
+    };
+    work(rt, alloc, lock, seat, gate)
+}
+
+// A seat for the next worker.
+fn seat_for(lock: &TurnLock<Book>, first: &mut Seat, caller: u32) -> Result<Seat, OutOfMemory>
+    requires first { IsFirst lock.now caller first.old }
+    requires callers { (2 ≤ caller) × (caller ≤ 64) }
+    ensures other { IfOk result (IsOther lock.now caller) }
+    ensures first { OnOk result (IsFirst lock.now (caller + 1) first.new) }
+    ensures refused { OnErr result (first.new ≡ first.old) }
+{
+    lock.split(first, caller)
+}
+
+// Worker 1, and the workers from `caller` on.
+fn crew_from<R: Threads + Wait + Sync, G: Gate + Sync, H: Hand>(
+    rt: &R,
+    alloc: Global,
+    lock: &TurnLock<Book>,
+    first: &mut Option<Seat>,
+    caller: u32,
+    workers: u32,
+    gate: &G,
+    hand: &mut H,
+) -> Led
+    requires seat { IsThere first.old (IsFirst lock.now caller) }
+    requires callers { (2 ≤ caller) × (caller ≤ workers + 1) × (workers ≤ 64) }
+    requires hand { IsReady lock.now.opening.setup (H.setup hand.old) (H.quanta hand.old)
+        (H.done hand.old) (H.halts hand.old) (H.can_put hand.old) }
+    ensures seat { SpeaksFrom caller lock.now result.seat }
+    ensures hand { WasLed result.next (H.setup hand.old) (H.setup hand.new) (H.quanta hand.old) (H.quanta hand.new)
+        (H.done hand.new) (H.halts hand.new) (H.can_put hand.new) (H.goes_to hand.old hand.new) }
+{
+    let Some(mut seat) = first.take() else {
+        unreachable!()
+    };
+    if caller > workers {
+        return lead(rt, alloc, lock, seat, gate, hand);
+    }
+    let Ok(other) = seat_for(lock, &mut seat, caller) else {
+        return lead(rt, alloc, lock, seat, gate, hand);
+    };
+    let mut theirs = Some(other);
+    let mut mine = Some(seat);
+    let (other, led) = join_mut(
+        rt,
+        &mut || -> Seat
+            requires { (IsSync R.row × IsSync G.row) × IsThere theirs (IsOther lock.now caller) }
+            ensures { IsOther lock.entry.now caller (record result { turns = 0 }) }
+        { work_with(rt, alloc, lock, caller, &mut theirs, gate) },
+        &mut || -> Led
+            requires { (IsSync R.row × IsSync G.row) × IsThere mine (IsFirst lock.now (caller + 1))
+                × ((2 ≤ caller) × (caller ≤ workers) × (workers ≤ 64))
+                × IsReady lock.now.opening.setup (H.setup hand.now) (H.quanta hand.now)
+                (H.done hand.now) (H.halts hand.now) (H.can_put hand.now) }
+            ensures { SpeaksFrom (caller + 1) lock.entry.now result.seat
+                × WasLed result.next (H.setup hand.entry.now) (H.setup hand.exit.now)
+                (H.quanta hand.entry.now) (H.quanta hand.exit.now) (H.done hand.exit.now) (H.halts hand.exit.now)
+                (H.can_put hand.exit.now) (H.goes_to hand.entry.now hand.exit.now) }
+        { crew_from(rt, alloc, lock, &mut mine, caller + 1, workers, gate, hand) },
+    );
+    Led {
+        seat: lock.join_seats(led.seat, other),
+        next: led.next,
+    }
+}
+
+/// Runs a book to its end, with this many workers, and hands the groups of its genebank over as they come. The calling
+/// thread is worker 1.
+pub fn run_crew<R: Threads + Wait + Sync, G: Gate + Sync, H: Hand>(
+    rt: &R,
+    alloc: Global,
+    book: Book,
+    workers: u32,
+    gate: &G,
+    hand: &mut H,
+) -> Ran
+    requires workers { (1 ≤ workers) × (workers ≤ 64) }
+    requires unhalted { H.halts hand.old ≡ 0 }
+    requires can { H.can_put hand.old }
+    requires setup { H.setup hand.old ≡ book.setup }
+    requires quanta { H.quanta hand.old ≡ book.quanta }
+    requires done { H.done hand.old ≤ length (run_bank book.setup book.committed) }
+
+    // All quanta are committed, and every group of the run's genebank was handed over, from the hand's place on, in
+    // order and each once.
+    ensures ended { IfEnded result (λ b. (b.setup ≡ book.setup) × (b.quanta ≡ book.quanta) × (b.committed ≡ b.quanta)) }
+    ensures all_put { IfEnded result (λ b. H.done hand.new ≡ length (run_bank book.setup book.quanta)) }
+
+    // It is halted exactly where the hand halted.
+    ensures halted { IfHalted result (λ b. (b.setup ≡ book.setup) × (b.quanta ≡ book.quanta) × (b.stopped ≡ true)) }
+    ensures halts { HaltsAsIn result (H.halts hand.new) }
+
+    // The hand is the one handed in, at a later time.
+    ensures setup { H.setup hand.new ≡ H.setup hand.old }
+    ensures quanta { H.quanta hand.new ≡ H.quanta hand.old }
+    ensures later { H.goes_to hand.old hand.new }
+{
+    let _committed = book.committed();
+    let Ok((lock, first)) = TurnLock::of(alloc, book) else {
+        return Ran::OutOfMemory;
+    };
+    let mut first = Some(first);
+    let Led { seat, next } = crew_from(rt, alloc, &lock, &mut first, 2, workers, gate, hand);
+    let mut book = lock.close(seat);
+    match next {
+        Next::Go => finish(alloc, book, hand),
+        Next::Halt => {
+            book.stop();
+            Ran::Halted(book)
+        }
+    }
+}

@@ -1,0 +1,256 @@
+//! Runs of two creatures, with gates that see who works.
+
+ghost use Rattle.std.specs.Prelude.{◌≡◌, ◌≤◌, IfOk, length};
+ghost use Rattle.tierra_model.specs.Ranges.{IsCode};
+
+use crate::{Gate, Hand, Next, Ran, run_crew};
+use commit_book::{Book, Claim};
+use std::alloc::Global;
+use std::snapshot::Snapshot;
+use std::sync::atomic::{AtomicBool, AtomicU64, Ordering};
+use std::test::Fail;
+use std::thread::yield_now;
+use tierra_model::{Code, Groups, How, Inoculum, OutOfMemory, SeedList, Setup, grow_setup};
+
+fn mover(alloc: Global) -> Result<Code, OutOfMemory>
+    ensures code { IfOk result (λ code. IsCode code) }
+    ensures long { IfOk result (λ code. length code ≡ 2) }
+{
+    let mut items = Vec::new(alloc);
+    items.push(9)?;
+    items.push(26)?;
+    Ok(Code { items })
+}
+
+fn five_nops(alloc: Global) -> Result<Code, OutOfMemory>
+    ensures code { IfOk result (λ code. IsCode code) }
+    ensures long { IfOk result (λ code. length code ≡ 5) }
+{
+    let items = vec![in alloc; 1; 5]?;
+    Ok(Code { items })
+}
+
+// A hundred cells, with a creature at cell 0 that writes into its own first cell, and one at cell 90 that does nothing.
+fn two_creatures(alloc: Global, save_at: u32) -> Result<Setup, OutOfMemory>
+    requires { (1 ≤ save_at) × (save_at ≤ 2) }
+{
+    let mut settings = grow_setup(alloc, mover(alloc)?)?.settings;
+    settings.soup_size = 100;
+    settings.save_at = save_at;
+    let mut items = Vec::new(alloc);
+    let (first, second) = (mover(alloc)?, five_nops(alloc)?);
+    items.push(Inoculum { at: 0, code: first })?;
+    items.push(Inoculum {
+        at: 90,
+        code: second,
+    })?;
+    let creatures = SeedList { items };
+    Ok(Setup {
+        settings,
+        creatures,
+    })
+}
+
+// Counts the groups and the calls, and halts at the first groups where it is to.
+#[derive(Drop)]
+struct CountHand {
+    setup: Snapshot<Setup>,
+    quanta: u64,
+    done: u64,
+    halts: u64,
+    is_to_halt: bool,
+}
+
+impl Hand for CountHand {
+    ghost setup = { λ h. h.setup.value };
+
+    ghost quanta = { λ h. h.quanta };
+
+    ghost done = { λ h. h.done };
+
+    ghost halts = { λ h. h.halts };
+
+    ghost can_put = { λ h. Unit {0} };
+
+    ghost goes_to = { λ a b. Unit {0} };
+
+    fn done(&self) -> u64 {
+        self.done
+    }
+
+    fn put(&mut self, groups: Groups) -> Next {
+        let more = groups.items.len() as u64;
+        match self.done.checked_add(more) {
+            Some(done) if more == 0 || !self.is_to_halt => {
+                self.done = done;
+                Next::Go
+            }
+            _ => {
+                self.halts = 1;
+                Next::Halt
+            }
+        }
+    }
+
+    ghost stays = { λ h. tt };
+
+    ghost goes_on = { λ a b c p q. tt };
+}
+
+// Holds the first `before` of the run until an `after` of another worker came, for at most 50,000,000 turns.
+#[derive(Drop)]
+struct HoldGate {
+    // The worker that is held first, and 0 before.
+    held: AtomicU64,
+    others_offered: AtomicBool,
+    is_limit_met: AtomicBool,
+    is_ended_by_another: AtomicBool,
+}
+
+impl HoldGate {
+    fn new() -> HoldGate {
+        HoldGate {
+            held: AtomicU64::new(0),
+            others_offered: AtomicBool::new(false),
+            is_limit_met: AtomicBool::new(false),
+            is_ended_by_another: AtomicBool::new(false),
+        }
+    }
+}
+
+impl Gate for HoldGate {
+    fn before(&self, worker: u32, _quantum: u64) {
+        let order = Ordering::SeqCst;
+        let worker = u64::from(worker);
+        if self.held.compare_exchange(0, worker, order, order).is_err() {
+            return;
+        }
+        for _ in 0..50_000_000 {
+            if self.others_offered.load(order) {
+                self.is_ended_by_another.store(true, order);
+                return;
+            }
+            yield_now();
+        }
+        self.is_limit_met.store(true, order);
+    }
+
+    fn after(&self, worker: u32, _quantum: u64) {
+        let held = self.held.load(Ordering::SeqCst);
+        if held != 0 && held != u64::from(worker) {
+            self.others_offered.store(true, Ordering::SeqCst);
+        }
+    }
+}
+
+// Counts the calls, and waits for nobody.
+#[derive(Drop)]
+struct CountGate {
+    befores: AtomicU64,
+    afters: AtomicU64,
+}
+
+impl CountGate {
+    fn new() -> CountGate {
+        CountGate {
+            befores: AtomicU64::new(0),
+            afters: AtomicU64::new(0),
+        }
+    }
+}
+
+impl Gate for CountGate {
+    fn before(&self, _worker: u32, _quantum: u64) {
+        self.befores.fetch_add(1, Ordering::SeqCst);
+    }
+
+    fn after(&self, _worker: u32, _quantum: u64) {
+        self.afters.fetch_add(1, Ordering::SeqCst);
+    }
+}
+
+// A book of 200 quanta of the two creatures, and a hand for it.
+fn begin(
+    alloc: Global,
+    window: u32,
+    save_at: u32,
+    is_to_halt: bool,
+) -> Result<(Book, CountHand), OutOfMemory>
+    requires window { (1 ≤ window) × (window ≤ 128) }
+    requires save_at { (1 ≤ save_at) × (save_at ≤ 2) }
+    ensures book { IfOk result (λ r. (r.0.committed ≡ 0) × (r.1.setup.value ≡ r.0.setup) × (r.1.quanta ≡ r.0.quanta)) }
+    ensures hand { IfOk result (λ r. (r.1.done ≡ 0) × (r.1.halts ≡ 0)) }
+{
+    let setup = two_creatures(alloc, save_at)?;
+    let hand = CountHand {
+        setup: Snapshot::of(&setup),
+        quanta: 200,
+        done: 0,
+        halts: 0,
+        is_to_halt,
+    };
+    let book = Book::begin(alloc, setup, 200, window)?;
+    Ok((book, hand))
+}
+
+#[test]
+fn a_hold_ends_by_another_worker(rt: HostRuntime) -> Result<(), Fail> {
+    let (book, mut hand) = begin(rt.alloc(), 6, 2, false)?;
+    let gate = HoldGate::new();
+    let ran = run_crew(&rt, rt.alloc(), book, 3, &gate, &mut hand);
+    assert!(rt; matches!(ran, Ran::Ended(_)));
+    assert!(rt; !gate.is_limit_met.load(Ordering::SeqCst));
+    assert!(rt; gate.is_ended_by_another.load(Ordering::SeqCst));
+    Ok(())
+}
+
+#[test]
+fn one_worker_runs_each_quantum(rt: HostRuntime) -> Result<(), Fail> {
+    let (book, mut hand) = begin(rt.alloc(), 2, 2, false)?;
+    let gate = CountGate::new();
+    let ran = run_crew(&rt, rt.alloc(), book, 1, &gate, &mut hand);
+    let Ran::Ended(book) = ran else {
+        panic!(rt; "not ended")
+    };
+    let calls = [&gate.befores, &gate.afters].map(|calls| calls.load(Ordering::SeqCst));
+    assert_eq!(rt; calls, [200, 200]);
+    assert_eq!(rt; (book.committed(), hand.done), (200, 0));
+    let entries = &book.history().items;
+    assert_eq!(rt; entries.len(), 200);
+    assert!(rt;
+        entries
+            .iter()
+            .all(|entry| entry.by == 1 && entry.how == How::Fresh)
+    );
+    Ok(())
+}
+
+#[test]
+fn each_group_is_handed_over(rt: HostRuntime) -> Result<(), Fail> {
+    for workers in [1, 2, 3, 64] {
+        let (book, mut hand) = begin(rt.alloc(), 2 * workers, 1, false)?;
+        let ran = run_crew(&rt, rt.alloc(), book, workers, &CountGate::new(), &mut hand);
+        let Ran::Ended(book) = ran else {
+            panic!(rt; "not ended")
+        };
+        let groups = book.groups_from(rt.alloc(), 0)?;
+        assert_eq!(rt; (groups.items.len(), hand.done), (1, 1));
+    }
+    Ok(())
+}
+
+#[test]
+fn a_hand_that_halts_stops_the_book(rt: HostRuntime) -> Result<(), Fail> {
+    for workers in [1, 3] {
+        let (book, mut hand) = begin(rt.alloc(), 2 * workers, 1, true)?;
+        let ran = run_crew(&rt, rt.alloc(), book, workers, &CountGate::new(), &mut hand);
+        let Ran::Halted(mut book) = ran else {
+            panic!(rt; "not halted")
+        };
+        assert_eq!(rt; (hand.done, hand.halts), (0, 1));
+        // The first groups were handed over before any quantum was committed.
+        assert!(rt; workers > 1 || book.committed() == 0);
+        assert!(rt; matches!(book.claim(rt.alloc()), Claim::Stopped));
+    }
+    Ok(())
+}

@@ -1,0 +1,114 @@
+//! What a worker does with the book while it has it.
+
+ghost use Rattle.std.specs.Prelude.{◌≡◌, ◌+◌, ◌<◌, ◌≤◌, ◌^◌, IfOk, drop};
+ghost use Rattle.tierra_model.specs.Genebank.{bank};
+ghost use Rattle.commit_book.specs.Giving.{MayGive};
+ghost use Rattle.crew.specs.Hands.{AreNext, run_bank};
+ghost use Rattle.crew.specs.Works.{HasWorked};
+
+use commit_book::{Advanced, Book, Claim};
+use quantum_run::{Finding, Job, Workspace};
+use std::alloc::Global;
+use std::marker::Brand;
+use std::sync::Wait;
+use std::sync::ledger::{Blank, Ledger};
+use step_count::Steps;
+use tierra_model::{Groups, OutOfMemory};
+use turn_lock::{Seat, TurnLock};
+
+// The finding of a job, where there is memory for it.
+pub(crate) fn finding_of(workspace: &mut Workspace, job: &Job) -> Option<Finding> {
+    counted_finding::<Brand>(workspace, job, Blank::new(1))
+}
+
+// The same, with an account of the instructions that only contracts see.
+fn counted_finding<L: Ledger>(workspace: &mut Workspace, job: &Job, blank: Blank) -> Option<Finding>
+    requires name { blank.name ≡ L.name }
+    requires parts { blank.parts ≡ L.parts }
+    requires some { 0 < L.parts }
+{
+    let mut steps = Steps::<L>::start(blank);
+    workspace.run(job, &mut steps).ok()
+}
+
+// Offers the finding, if there is one, and gives the next job, if there is one.
+pub(crate) fn serve(
+    alloc: Global,
+    book: &mut Book,
+    by: u32,
+    finding: Option<Finding>,
+) -> Option<Job>
+    requires by { (1 ≤ by) × (by ≤ 64) }
+    ensures { MayGive by book.old book.new }
+{
+    counted_serve::<Brand>(alloc, book, by, finding, Blank::new(1))
+}
+
+fn counted_serve<L: Ledger>(
+    alloc: Global,
+    book: &mut Book,
+    by: u32,
+    finding: Option<Finding>,
+    blank: Blank,
+) -> Option<Job>
+    requires by { (1 ≤ by) × (by ≤ 64) }
+    requires name { blank.name ≡ L.name }
+    requires parts { blank.parts ≡ L.parts }
+    requires some { 0 < L.parts }
+    ensures { MayGive by book.old book.new }
+{
+    let mut steps = Steps::<L>::start(blank);
+    if let Some(finding) = finding {
+        book.offer(alloc, finding, by, &mut steps);
+    }
+    next_job(alloc, book, by, &mut steps)
+}
+
+// The next job. Where as many are out as may be, quanta are committed until there is one.
+fn next_job<L: Ledger>(alloc: Global, book: &mut Book, by: u32, steps: &mut Steps<L>) -> Option<Job>
+    requires by { (1 ≤ by) × (by ≤ 64) }
+    ensures { MayGive by book.old book.new }
+{
+    for _ in 0..book.quanta() {
+        match book.claim(alloc) {
+            Claim::Job(job) => return Some(job),
+            Claim::Full => {}
+            Claim::Stopped | Claim::Ended | Claim::OutOfMemory => return None,
+        }
+        match book.advance(alloc, by, steps) {
+            Advanced::Committed => {}
+            Advanced::Ended | Advanced::OutOfMemory => return None,
+        }
+    }
+    None
+}
+
+// What a turn gave.
+#[derive(Drop)]
+pub(crate) struct Turned {
+    pub seat: Seat,
+    pub job: Option<Job>,
+    pub quanta: u64,
+}
+
+// Takes a turn, in which a finding is offered and a job claimed.
+pub(crate) fn turn<R: Wait>(
+    rt: &R,
+    alloc: Global,
+    lock: &TurnLock<Book>,
+    seat: Seat,
+    finding: Option<Finding>,
+) -> Turned
+    requires lock { seat.lock ≡ lock.now }
+    requires room { seat.turns < 2 ^ 40 }
+    ensures worked { HasWorked 1 seat result.seat }
+    ensures quanta { result.quanta ≡ lock.now.opening.setup.1 }
+    ensures few { result.quanta ≤ 4000000 }
+{
+    let caller = seat.caller();
+    let (turn, mut book) = lock.take(rt, seat);
+    let quanta = book.quanta();
+    let job = serve(alloc, &mut book, caller, finding);
+    let seat = lock.give(turn, book);
+    Turned { seat, job, quanta }
+}

@@ -1,5 +1,0 @@
--- The counter is over the ledger of its blank.
-use Rattle.serial_slicer.proofs.run_serial.Given as goal
-
-abbrev pub ghosts-counted : goal.ghosts-counted
-ghosts-counted a = record { name = a.blank.name; parts = a.blank.parts }
