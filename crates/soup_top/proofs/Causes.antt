@@ -4,8 +4,9 @@ use Rattle.std.specs.Prelude.{◌⊎◌}
 use Rattle.std.proofs.lemmas.Option.{IfSome_then}
 use Rattle.bank_recover.proofs.OneBank.{says_one}
 use Rattle.bank_recover.specs.declared.faults.BankFault.{BankFault}
-use Rattle.soup_words.specs.declared.order.Action.{Action}
-use Rattle.soup_words.specs.declared.order.Action.TheVariants as action
+use Rattle.desk_io.specs.Desk.{DeskState}
+use Rattle.soup_top.specs.declared.kind.Kind.{Kind}
+use Rattle.soup_top.specs.declared.kind.Kind.TheVariants as kind
 use Rattle.soup_words.specs.declared.order.Order.{Order}
 use Rattle.soup_top.specs.declared.asking.Task.{Task}
 use Rattle.soup_top.specs.declared.asking.Task.TheVariants as task
@@ -22,7 +23,7 @@ use Rattle.soup_top.specs.Sources.{IsSetupOf, IsTextBy, IsTextOf, Refused, read_
 use Rattle.soup_top.specs.Statuses.{status_of}
 use Rattle.soup_top.specs.Stops.{CountsStop, IfRefused}
 use Rattle.soup_top.specs.Tasks.{IsTaskOf, IsToldWhenRefused, OfText, RefusesTask}
-use Rattle.soup_top.specs.Words.{AsksFor, IsRun, ReadsSource, UsesDisk}
+use Rattle.soup_top.specs.Words.{AsksFor, IsRun, ReadsSource, UsesDisk, kind_of}
 use Rattle.soup_top.proofs.Accepted.{not-refused}
 use Rattle.soup_top.proofs.OneTask.{run-asked, same-order}
 use Rattle.soup_top.proofs.Refusals.{not_refused}
@@ -39,110 +40,110 @@ asking-has-cause words left file R D T status.DiskFault h = absurd h
 asking-has-cause words left file R D T status.TellFault h = absurd h
 asking-has-cause words left file R D T status.OutOfMemory h = h
 
-run-uses-disk : (act : Action) → IsRun act → UsesDisk act
-run-uses-disk action.Grow r = tt
-run-uses-disk action.Run r = tt
-run-uses-disk action.Asm r = r
-run-uses-disk action.Dis r = r
-run-uses-disk action.Bank r = tt
-run-uses-disk action.Drill r = r
-run-uses-disk action.Dump r = r
+run-uses-disk : (what : Kind) → IsRun what → UsesDisk what
+run-uses-disk kind.RunListing r = tt
+run-uses-disk kind.RunFile r = tt
+run-uses-disk kind.TellListing r = r
+run-uses-disk kind.TellHex r = r
+run-uses-disk kind.TellBank r = tt
+run-uses-disk kind.NotBuilt r = r
+run-uses-disk kind.TellFile r = r
 
-refuses-run : (act : Action) (n : ℕ) (left file : Option (List ℕ)) (setup : SetupFields) (f : BankFault) → IsRun act
-    → IfSome left (λ bytes. IsSetupOf act bytes setup) → IfSome file (λ image. RefusesRun setup n image f) → RefusesOrder act n left file f
-refuses-run action.Grow n left file setup f r s h = (tt, (setup, s, h))
-refuses-run action.Run n left file setup f r s h = (tt, (setup, s, h))
-refuses-run action.Asm n left file setup f r s h = absurd r
-refuses-run action.Dis n left file setup f r s h = absurd r
-refuses-run action.Bank n left file setup f r s h = absurd r
-refuses-run action.Drill n left file setup f r s h = absurd r
-refuses-run action.Dump n left file setup f r s h = absurd r
+refuses-run : (what : Kind) (n : ℕ) (left file : Option (List ℕ)) (setup : SetupFields) (f : BankFault) → IsRun what
+    → IfSome left (λ bytes. IsSetupOf what bytes setup) → IfSome file (λ image. RefusesRun setup n image f) → RefusesOrder what n left file f
+refuses-run kind.RunListing n left file setup f r s h = (tt, (setup, s, h))
+refuses-run kind.RunFile n left file setup f r s h = (tt, (setup, s, h))
+refuses-run kind.TellListing n left file setup f r s h = absurd r
+refuses-run kind.TellHex n left file setup f r s h = absurd r
+refuses-run kind.TellBank n left file setup f r s h = absurd r
+refuses-run kind.NotBuilt n left file setup f r s h = absurd r
+refuses-run kind.TellFile n left file setup f r s h = absurd r
 
 refuses-task : (words : List (List ℕ)) (left file : Option (List ℕ)) (t : Task) (f : BankFault) → IsTaskOf words left t
-    → RefusesTask t file f → ForOrder words (λ order. RefusesOrder order.action order.quanta left file f)
-refuses-task words left file (task.Run setup n) f is h =
+    → RefusesTask t file f → ForOrder words (λ order. RefusesOrder (kind_of order) order.quanta left file f)
+refuses-task words left file (task.Run setup n w) f is h =
     let here = subst (λ (m : ℕ). IfSome file (λ image. RefusesRun setup m image f)) (sym is.2.1) h in
-    (is.0, is.1, refuses-run is.0.action is.0.quanta left file setup f is.2.0 is.2.2 here)
+    (is.0, is.1, refuses-run (kind_of is.0) is.0.quanta left file setup f is.2.0 is.2.2 here)
 refuses-task words left file (task.Tell text) f is h = absurd h
-refuses-task words left file task.Bank f is h =
-    (is.0, is.1, subst (λ (a : Action). RefusesOrder a is.0.quanta left file f) (sym is.2) h)
+refuses-task words left file (task.Bank asked) f is h =
+    (is.0, is.1, subst (λ (a : Kind). RefusesOrder a is.0.quanta left file f) (sym is.2.0) h)
 
-run-accepted : (act : Action) (n : ℕ) (setup : SetupFields) (left : Option (List ℕ)) → IsRun act
-    → IfSome left (λ bytes. IsSetupOf act bytes setup) → IfSome left (λ bytes. (text : List ℕ) × IsTextBy act n bytes text)
-run-accepted action.Grow n setup left r s = IfSome_then left s (λ bytes is. (run_text setup n, (setup, is, refl)))
-run-accepted action.Run n setup left r s = IfSome_then left s (λ bytes is. (run_text setup n, (setup, is, refl)))
-run-accepted action.Asm n setup left r s = absurd r
-run-accepted action.Dis n setup left r s = absurd r
-run-accepted action.Bank n setup left r s = absurd r
-run-accepted action.Drill n setup left r s = absurd r
-run-accepted action.Dump n setup left r s = absurd r
+run-accepted : (what : Kind) (order : Order) (setup : SetupFields) (left : Option (List ℕ)) → IsRun what
+    → IfSome left (λ bytes. IsSetupOf what bytes setup) → IfSome left (λ bytes. (text : List ℕ) × IsTextBy what order bytes text)
+run-accepted kind.RunListing order setup left r s = IfSome_then left s (λ bytes is. (run_text setup order.quanta, (setup, is, refl)))
+run-accepted kind.RunFile order setup left r s = IfSome_then left s (λ bytes is. (run_text setup order.quanta, (setup, is, refl)))
+run-accepted kind.TellListing order setup left r s = absurd r
+run-accepted kind.TellHex order setup left r s = absurd r
+run-accepted kind.TellBank order setup left r s = absurd r
+run-accepted kind.NotBuilt order setup left r s = absurd r
+run-accepted kind.TellFile order setup left r s = absurd r
 
 -- a task comes of a source that is accepted
 task-accepted : (words : List (List ℕ)) (left : Option (List ℕ)) (t : Task) (is : IsTaskOf words left t) → IsAccepted is.0 left
-task-accepted words left (task.Run setup n) is reads = run-accepted is.0.action is.0.quanta setup left is.2.0 is.2.2
+task-accepted words left (task.Run setup n w) is reads = run-accepted (kind_of is.0) is.0 setup left is.2.0 is.2.2
 task-accepted words left (task.Tell text) is reads = IfSome_then left is.2.1 (λ bytes told. (text, told))
-task-accepted words left task.Bank is reads = absurd (subst ReadsSource is.2 reads)
+task-accepted words left (task.Bank asked) is reads = absurd (subst ReadsSource is.2.0 reads)
 
 disk-task : (words : List (List ℕ)) (left : Option (List ℕ)) (t : Task) (disk : ℕ) → IsTaskOf words left t → OfText t (disk ≡ 0) → 0 < disk
-    → ForOrder words (λ order. UsesDisk order.action × IsAccepted order left)
-disk-task words left (task.Run setup n) disk is none some =
-    (is.0, is.1, (run-uses-disk is.0.action is.2.0, task-accepted words left (task.Run setup n) is))
+    → ForOrder words (λ order. UsesDisk (kind_of order) × IsAccepted order left)
+disk-task words left (task.Run setup n w) disk is none some =
+    (is.0, is.1, (run-uses-disk (kind_of is.0) is.2.0, task-accepted words left (task.Run setup n w) is))
 disk-task words left (task.Tell text) disk is none some = absurd (omega arith)
-disk-task words left task.Bank disk is none some =
-    (is.0, is.1, (subst UsesDisk (sym is.2) tt, task-accepted words left task.Bank is))
+disk-task words left (task.Bank asked) disk is none some =
+    (is.0, is.1, (subst UsesDisk (sym is.2.0) tt, task-accepted words left (task.Bank asked) is))
 
 -- an answer at which what was asked stops
-pub stop-has-cause : (words : List (List ℕ)) (left file : Option (List ℕ)) (R : Type 0) (t : Task) (disk tells : ℕ) (s : RunStop)
-    → IsTaskOf words left t → OfText t (disk ≡ 0) → IfRefused s (RefusesTask t file) → CountsStop disk tells s
-    → Cause words left file R (0 < disk) (0 < tells) (status_of s)
-stop-has-cause words left file R t disk tells (stop.Refused f) is text h counts = refuses-task words left file t f is h
-stop-has-cause words left file R t disk tells stop.DiskFault is text h counts = (counts.0, disk-task words left t disk is text counts.0)
-stop-has-cause words left file R t disk tells stop.TellFault is text h counts =
-    (counts.1, (is.0, is.1, task-accepted words left t is))
-stop-has-cause words left file R t disk tells stop.OutOfMemory is text h counts = tt
+pub stop-has-cause : (words : List (List ℕ)) (left file : Option (List ℕ)) (R : Type 0) (t : Task) (d : DeskState) (s : RunStop)
+    → IsTaskOf words left t → OfText t (d.disk_faults ≡ 0) → IfRefused s (RefusesTask t file) → CountsStop s d
+    → Cause words left file R (0 < d.disk_faults) (0 < d.tell_faults) (status_of s)
+stop-has-cause words left file R t d (stop.Refused f) is text h counts = refuses-task words left file t f is h
+stop-has-cause words left file R t d stop.DiskFault is text h counts = (counts.disk, disk-task words left t d.disk_faults is text counts.disk)
+stop-has-cause words left file R t d stop.TellFault is text h counts =
+    (counts.tell, (is.0, is.1, task-accepted words left t is))
+stop-has-cause words left file R t d stop.OutOfMemory is text h counts = tt
 
 -- accepted bytes of a source are not refused
-source-refused : (act : Action) (n : ℕ) (bytes text : List ℕ) (left file : Option (List ℕ)) (f : SourceFault) → ReadsSource act
-    → read_by act left file ≡ Some bytes → IsTextBy act n bytes text → IfSome left (λ xs. Refused act xs f) → ⊥
-source-refused action.Grow n bytes text left file f r e t h = not-refused action.Grow n bytes text f t (rw e at h)
-source-refused action.Run n bytes text left file f r e t h = not-refused action.Run n bytes text f t (rw e at h)
-source-refused action.Asm n bytes text left file f r e t h = not-refused action.Asm n bytes text f t (rw e at h)
-source-refused action.Dis n bytes text left file f r e t h = not-refused action.Dis n bytes text f t (rw e at h)
-source-refused action.Bank n bytes text left file f r e t h = r
-source-refused action.Drill n bytes text left file f r e t h = r
-source-refused action.Dump n bytes text left file f r e t h = not-refused action.Dump n bytes text f t (rw e at h)
+source-refused : (what : Kind) (order : Order) (bytes text : List ℕ) (left file : Option (List ℕ)) (f : SourceFault) → ReadsSource what
+    → read_by what left file ≡ Some bytes → IsTextBy what order bytes text → IfSome left (λ xs. Refused what xs f) → ⊥
+source-refused kind.RunListing order bytes text left file f r e t h = not-refused kind.RunListing order bytes text f t (rw e at h)
+source-refused kind.RunFile order bytes text left file f r e t h = not-refused kind.RunFile order bytes text f t (rw e at h)
+source-refused kind.TellListing order bytes text left file f r e t h = not-refused kind.TellListing order bytes text f t (rw e at h)
+source-refused kind.TellHex order bytes text left file f r e t h = not-refused kind.TellHex order bytes text f t (rw e at h)
+source-refused kind.TellBank order bytes text left file f r e t h = r
+source-refused kind.NotBuilt order bytes text left file f r e t h = r
+source-refused kind.TellFile order bytes text left file f r e t h = not-refused kind.TellFile order bytes text f t (rw e at h)
 
 -- nor is the disk of a run's history, or a file that has groups
-bank-refused : (act : Action) (n : ℕ) (bytes text : List ℕ) (left file : Option (List ℕ)) (may_leave : List ℕ → Type 0) (f : BankFault)
-    → read_by act left file ≡ Some bytes → IsTextBy act n bytes text
-    → (IsRun act → (setup : SetupFields) → IsSetupOf act bytes setup → DiskIsOfHistory setup file may_leave)
-    → RefusesOrder act n left file f → ⊥
-bank-refused action.Grow n bytes text left file may_leave f e t disk h =
-    not_refused h.1.0 n file may_leave f (disk tt h.1.0 (rw e at h.1.1)) h.1.2
-bank-refused action.Run n bytes text left file may_leave f e t disk h =
-    not_refused h.1.0 n file may_leave f (disk tt h.1.0 (rw e at h.1.1)) h.1.2
-bank-refused action.Asm n bytes text left file may_leave f e t disk h = h.0
-bank-refused action.Dis n bytes text left file may_leave f e t disk h = h.0
-bank-refused action.Bank n bytes text left file may_leave f e t disk h =
+bank-refused : (what : Kind) (order : Order) (bytes text : List ℕ) (left file : Option (List ℕ)) (may_leave : List ℕ → Type 0) (f : BankFault)
+    → read_by what left file ≡ Some bytes → IsTextBy what order bytes text
+    → (IsRun what → (setup : SetupFields) → IsSetupOf what bytes setup → DiskIsOfHistory setup file may_leave)
+    → RefusesOrder what order.quanta left file f → ⊥
+bank-refused kind.RunListing order bytes text left file may_leave f e t disk h =
+    not_refused h.1.0 order.quanta file may_leave f (disk tt h.1.0 (rw e at h.1.1)) h.1.2
+bank-refused kind.RunFile order bytes text left file may_leave f e t disk h =
+    not_refused h.1.0 order.quanta file may_leave f (disk tt h.1.0 (rw e at h.1.1)) h.1.2
+bank-refused kind.TellListing order bytes text left file may_leave f e t disk h = h.0
+bank-refused kind.TellHex order bytes text left file may_leave f e t disk h = h.0
+bank-refused kind.TellBank order bytes text left file may_leave f e t disk h =
     let one = says_one bytes None (Ok t.0) (Err f) t.1 (rw e at h) in cc
-bank-refused action.Drill n bytes text left file may_leave f e t disk h = h.0
-bank-refused action.Dump n bytes text left file may_leave f e t disk h = h.0
+bank-refused kind.NotBuilt order bytes text left file may_leave f e t disk h = h.0
+bank-refused kind.TellFile order bytes text left file may_leave f e t disk h = h.0
 
 -- so accepted words and bytes, and for a run a disk of its history, give Done or want of memory where nothing failed
 pub complete-by : (words : List (List ℕ)) (left file : Option (List ℕ)) (may_leave : List ℕ → Type 0) (order : Order) (bytes text : List ℕ)
     (reads disk tells : ℕ) (s : Status) → Cause words left file (0 < reads) (0 < disk) (0 < tells) s → AsksFor words order
-    → read_by order.action left file ≡ Some bytes → IsTextOf order bytes text → DiskIsOfRun order bytes file may_leave
+    → read_by (kind_of order) left file ≡ Some bytes → IsTextOf order bytes text → DiskIsOfRun order bytes file may_leave
     → reads ≡ 0 → disk ≡ 0 → tells ≡ 0 → (s ≡ status.Done) ⊎ (s ≡ status.OutOfMemory)
 complete-by words left file may_leave order bytes text reads disk tells status.Done h a e t d r k l = inl refl
 complete-by words left file may_leave order bytes text reads disk tells status.WordsRefused h a e t d r k l = absurd (h order a)
 complete-by words left file may_leave order bytes text reads disk tells (status.SourceRefused f) h a e t d r k l =
     let same = same-order words h.0 order h.1 a in
-    let here = subst (λ (o : Order). ReadsSource o.action × IfSome left (λ xs. Refused o.action xs f)) same h.2 in
-    absurd (source-refused order.action order.quanta bytes text left file f here.0 e t here.1)
+    let here = subst (λ (o : Order). ReadsSource (kind_of o) × IfSome left (λ xs. Refused (kind_of o) xs f)) same h.2 in
+    absurd (source-refused (kind_of order) order bytes text left file f here.0 e t here.1)
 complete-by words left file may_leave order bytes text reads disk tells (status.BankRefused f) h a e t d r k l =
     let same = same-order words h.0 order h.1 a in
-    let here = subst (λ (o : Order). RefusesOrder o.action o.quanta left file f) same h.2 in
-    absurd (bank-refused order.action order.quanta bytes text left file may_leave f e t d here)
+    let here = subst (λ (o : Order). RefusesOrder (kind_of o) o.quanta left file f) same h.2 in
+    absurd (bank-refused (kind_of order) order bytes text left file may_leave f e t d here)
 complete-by words left file may_leave order bytes text reads disk tells status.ReadFault h a e t d r k l = absurd (omega (arith, h.0))
 complete-by words left file may_leave order bytes text reads disk tells status.DiskFault h a e t d r k l = absurd (omega (arith, h.0))
 complete-by words left file may_leave order bytes text reads disk tells status.TellFault h a e t d r k l = absurd (omega (arith, h.0))
@@ -154,7 +155,7 @@ pub told-when-refused : (words : List (List ℕ)) (left file before now : Option
     → OnBankRefused (status_of s) (λ f. (setup : SetupFields) (n : ℕ) → AsksForRunOf words left setup n
     → IfSome file (λ image. IsToldAtRefusal (run_groups setup n) before now f))
 told-when-refused words left file before now t (stop.Refused f) is h = λ setup n asked.
-    subst (λ (x : Task). IfSome file (λ image. IsToldWhenRefused x before now f)) (run-asked words left t setup n is asked) h
+    subst (λ (x : Task). IfSome file (λ image. IsToldWhenRefused x before now f)) (run-asked words left t setup n is asked).1 h
 told-when-refused words left file before now t stop.DiskFault is h = tt
 told-when-refused words left file before now t stop.TellFault is h = tt
 told-when-refused words left file before now t stop.OutOfMemory is h = tt

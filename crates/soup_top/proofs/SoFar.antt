@@ -1,9 +1,9 @@
 -- The first k groups of a run were taken to a bank that had some, and their lines were told.
-use Rattle.std.proofs.Common.{◌≡◌, ◌∙◌, inl, inr, ap, subst, arith, ℕ, ◌+◌, ◌<◌, List, ◌++◌, length, take, drop, append_assoc, length-append, length-take, Option, Some}
+use Rattle.std.proofs.Common.{◌≡◌, ◌∙◌, inl, inr, ap, subst, arith, ℕ, ◌+◌, ◌<◌, ◌≤◌, List, ◌++◌, length, take, drop, append_assoc, length-append, length-take, Option, Some}
 use Rattle.std.specs.Prelude.{IfSome, slice_get}
 use Rattle.std.proofs.lemmas.List.{take_all}
 use Rattle.std.proofs.lemmas.Option.{slice_get_within}
-use Rattle.desk_io.specs.Desk.{Appended, AppendedSome, Elapses}
+use Rattle.desk_io.specs.Desk.{Appended, AppendedSome, DeskState, Elapses}
 use Rattle.desk_io.proofs.Time.{Elapses-weaker}
 use Rattle.tierra_model.specs.Genebank.{GroupsFit}
 use Rattle.tierra_model.specs.Groups.{GroupFields}
@@ -11,23 +11,27 @@ use Rattle.bank_journal.specs.Journal.{Has}
 use Rattle.bank_journal.specs.Steps.{StaysTold}
 use Rattle.bank_journal.proofs.Times.{each_file}
 use Rattle.report_text.specs.Bank.{saved_lines}
-use Rattle.soup_top.specs.Genebank.{FitsAsFar, IsFirstToDiffer, completed}
-use Rattle.soup_top.specs.Keeping.{DiffersAt, IsKeeping, IsTaken, IsTaking, group_lines, grown}
-use Rattle.soup_top.proofs.Growing.{first_to_differ, fits_as_far_as, grown-all, inside_had, taken_fits, taken_grown}
+use Rattle.soup_top.specs.Genebank.{IsFirstToDiffer}
+use Rattle.soup_top.specs.Handing.{TakenSoFar}
+use Rattle.soup_top.specs.Keeping.{DiffersAt, FitsAsFar, IsKeeping, IsTaken, IsTaking, completed, group_lines, grown}
+use Rattle.soup_top.proofs.Growing.{first_is_later, first_to_differ, fits_as_far_as, grown-all, inside_had, taken_fits, taken_grown}
 use Rattle.soup_top.proofs.RunLines.{lines_left, lines_more, lines_so_far}
 use Rattle.soup_top.proofs.Taking.{times_then}
 use Rattle.soup_top.proofs.Telling.{Appended-then, piece_begun, text_before}
-
-pub record TakenSoFar (had run : List GroupFields) (k : ℕ) (groups : List GroupFields) (before now : Option (List ℕ)) : Type 0 where
-  pub groups_are : groups ≡ grown had run k
-  pub fits : GroupsFit (take k groups) (take k run)
-  pub told : Appended before (saved_lines (take k run)) now
 
 module _ {had run : List GroupFields} {k : ℕ} {groups : List GroupFields} {before mid : Option (List ℕ)}
     (so_far : TakenSoFar had run k groups before mid) where
   -- the bank has its groups still
   pub has_as_many : (n : ℕ) → n < length had → n < length groups
   has_as_many n lt = omega (arith, ap length so_far.groups_are, length-append had (drop (length had) (take k run)))
+
+  -- and none of those that were taken differs
+  pub none_differs_yet : (n : ℕ) → IsFirstToDiffer had run n → (k ≤ n) × (n < length had) × (n < length run)
+  none_differs_yet n first = (
+    first_is_later had run k n (subst (λ gs. GroupsFit (take k gs) (take k run)) so_far.groups_are so_far.fits) first,
+    slice_get_within had n first.disk_group first.on_disk,
+    slice_get_within run n first.run_group first.in_run,
+  )
 
   module _ {g : GroupFields} (at : slice_get run k ≡ Some g) where
     grown_taken : (now : List GroupFields) → IsTaken groups k g now → now ≡ grown had run (k + 1)
@@ -75,19 +79,18 @@ module _ {had run : List GroupFields} {k : ℕ} {groups : List GroupFields} {bef
         }
 
     -- so at each moment since the start
-    pub keeps_time : {D : Type 0} (moment : D → ℕ) (moments : D → ℕ → List ℕ → List ℕ → Type 0) (old now new : D)
-        (reads now_reads : Option (List ℕ)) (digest its : List ℕ) → its ≡ digest → StaysTold reads now_reads
-        → IfSome reads (λ file. Elapses moment moments old now (IsKeeping digest had run before))
-        → IfSome now_reads (λ file. Elapses moment moments now new (IsTaking its groups k g mid))
-        → IfSome reads (λ file. Elapses moment moments old new (IsKeeping digest had run before))
-    keeps_time moment moments old now new reads now_reads digest its same still first second =
+    pub keeps_time : (old now new : DeskState) (digest its : List ℕ) → its ≡ digest → StaysTold old now
+        → IfSome old.reads (λ file. Elapses old now (IsKeeping digest had run before))
+        → IfSome now.reads (λ file. Elapses now new (IsTaking its groups k g mid))
+        → IfSome old.reads (λ file. Elapses old new (IsKeeping digest had run before))
+    keeps_time old now new digest its same still first second =
         let more =
-        each_file now_reads (λ (file : List ℕ). Elapses moment moments now new (IsTaking its groups k g mid))
-        (λ (file : List ℕ). Elapses moment moments now new (IsKeeping digest had run before))
+        each_file now.reads (λ (file : List ℕ). Elapses now new (IsTaking its groups k g mid))
+        (λ (file : List ℕ). Elapses now new (IsKeeping digest had run before))
         (λ file is time. Elapses-weaker (λ image text taking.
         taking_keeps digest image text (subst (λ (d : List ℕ). IsTaking d groups k g mid image text) same taking)) time)
         second in
-        times_then moment moments old now new reads now_reads (IsKeeping digest had run before) still first more
+        times_then old now new (IsKeeping digest had run before) still first more
 
     -- the first that differs is one of those that the bank had
     pub differs_first : DiffersAt groups k g → (k < length groups) × (k < length had) × IsFirstToDiffer had run k

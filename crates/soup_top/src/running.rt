@@ -1,44 +1,40 @@
 //! A run that keeps its genebank.
 
-ghost use Rattle.std.specs.Prelude.{◌≡◌, ◌<◌, ◌≤◌, ◌++◌, Err, Some, IfErr, IfOk, IfSome, OnErr, OnOk, length, take};
-ghost use Rattle.bank_journal.specs.Journal.{IsAtRest};
-ghost use Rattle.bank_journal.specs.Steps.{StaysTold, WithText};
-ghost use Rattle.bank_recover.specs.Bank.{BankSays};
-ghost use Rattle.desk_io.specs.Desk.{Appended, AppendedSome, Elapses, Only};
+ghost use Rattle.std.specs.Prelude.{◌≡◌, ◌<◌, ◌≤◌, ◌++◌, ℕ, IfErr, IfOk, IfSome, OnOk, length, take};
+ghost use Rattle.bank_journal.specs.Journal.{Attaches, IsAttached, Refuses};
+ghost use Rattle.bank_journal.specs.Steps.{IsUnwritten};
+ghost use Rattle.bank_recover.specs.Bank.{IsFresh};
+ghost use Rattle.bank_recover.specs.declared.faults.BankFault.{BankFault};
+ghost use Rattle.desk_io.specs.Desk.{Appended, Elapses, HasNoFault, KeepsDisk, TellsText, UsesDisk};
 ghost use Rattle.report_text.specs.Bank.{saved_lines};
-ghost use Rattle.soup_top.specs.Genebank.{BeginsWith, DiskIsOfHistory, FitsAsFar, HasGroups, IsFirstToDiffer, IsOfHistory, IsTrueMoment, RefusesRun, completed, digest_of};
-ghost use Rattle.soup_top.specs.Keeping.{IsKeeping, IsToldAtRefusal};
+ghost use Rattle.soup_top.specs.Genebank.{BeginsWith, DiskIsOfHistory, IsFirstToDiffer, IsOfHistory, IsTrueMoment, RefusesRun, digest_of};
+ghost use Rattle.soup_top.specs.Keeping.{Completes, IsKeeping, IsToldAtRefusal};
 ghost use Rattle.soup_top.specs.Sources.{run_groups, run_report, run_text};
-ghost use Rattle.soup_top.specs.Stops.{CountsStops, IfDiffers, IfRefused, UnlessDiffers};
+ghost use Rattle.soup_top.specs.Stops.{CountsStops, IfDiffers, IfRefused};
 
-use crate::keeping::keep_groups;
+use crate::hand::{Keeper, Start, keep_book};
 use crate::stop::RunStop;
 use bank_format::setup_digest;
 use bank_journal::Bank;
+use commit_book::Book;
+use crew::Gate;
 use desk_io::Desk;
-use report_text::report;
-use serial_slicer::run_serial;
 use std::alloc::Global;
-use tierra_model::{Groups, Setup, Text};
+use std::snapshot::Snapshot;
+use std::sync::Wait;
+use std::thread::Threads;
+use tierra_model::{Setup, Text};
 
 // Attaches the genebank of the setup.
 fn attach<D: Desk>(alloc: Global, desk: &mut D, setup: &Setup) -> Result<Bank, RunStop>
-    requires disk_sound { D.disk_faults desk.old ≡ 0 }
-    requires tell_sound { D.tell_faults desk.old ≡ 0 }
-    ensures digest { IfOk result (λ bank. bank.digest ≡ digest_of setup.now) }
-    ensures had { IfOk result (λ bank. IfSome (D.reads desk.old) (HasGroups setup.now bank.groups)) }
-    ensures at_rest { IfOk result (λ bank. IfSome (D.reads desk.new) (IsAtRest bank.digest bank.groups)) }
-    ensures durable { OnOk result (Only (D.reads desk.new) (D.may_leave desk.new)) }
-    ensures still { OnOk result (StaysTold (D.reads desk.old) (D.reads desk.new)) }
-    ensures unwritten { IfOk result (λ bank. IfSome (D.reads desk.old) (λ file. 0 < length bank.groups → D.reads desk.new ≡ D.reads desk.old)) }
-    ensures refused { IfErr result (λ s. IfRefused s (λ f. IfSome (D.reads desk.old) (λ file. BankSays file (Some (digest_of setup.now)) (Err f)))) }
-    ensures untouched { IfErr result (λ s. IfRefused s (λ f. D.reads desk.new ≡ D.reads desk.old)) }
-    ensures quiet { IfErr result (λ s. IfRefused s (λ f. IfSome (D.reads desk.old) (λ file. Elapses D.moment D.moments desk.old desk.new
-        (WithText (D.told desk.old) (D.may_leave desk.old))))) }
-    ensures moments { DiskIsOfHistory setup.now (D.reads desk.old) (D.may_leave desk.old)
-        → Elapses D.moment D.moments desk.old desk.new (WithText (D.told desk.old) (IsOfHistory setup.now)) }
-    ensures told { D.told desk.new ≡ D.told desk.old }
-    ensures counts { CountsStops (D.disk_faults desk.new) (D.tell_faults desk.new) result }
+    requires sound { HasNoFault (D.state desk.old) }
+    ensures attached { IfOk result (Attaches (digest_of setup.now) (D.state desk.old) (D.state desk.new)) }
+    ensures refused { IfErr result (λ s. IfRefused s (Refuses (digest_of setup.now) (D.state desk.old) (D.state desk.new))) }
+    ensures kept { OnOk result (IfSome (D.state desk.old).reads (λ file. (IsFresh file → ⊥) → IsUnwritten (D.state desk.old) (D.state desk.new))) }
+    ensures quiet { IfSome (D.state desk.old).reads (λ file. (IsFresh file → ⊥) → UsesDisk (D.state desk.old) (D.state desk.new) (D.state desk.old).may_leave) }
+    ensures moments { DiskIsOfHistory setup.now (D.state desk.old).reads (D.state desk.old).may_leave → UsesDisk (D.state desk.old) (D.state desk.new) (IsOfHistory setup.now) }
+    ensures told { (D.state desk.new).told ≡ (D.state desk.old).told }
+    ensures counts { CountsStops result (D.state desk.new) }
 {
     let digest = setup_digest(alloc, setup)?;
     match Bank::attach(alloc, desk, &digest) {
@@ -47,78 +43,104 @@ fn attach<D: Desk>(alloc: Global, desk: &mut D, setup: &Setup) -> Result<Bank, R
     }
 }
 
-/// What a run comes to.
-#[derive(Drop)]
-struct Outcome {
-    groups: Groups,
-    report: Text,
-}
-
-fn outcome_of(alloc: Global, setup: Setup, quanta: u64) -> Result<Outcome, RunStop>
-    requires few { quanta ≤ 4000000 }
-    ensures groups { IfOk result (λ o. o.groups ≡ run_groups setup quanta) }
-    ensures report { IfOk result (λ o. o.report ≡ run_report setup quanta) }
-    ensures memory { IfErr result (λ s. s ≡ RunStop.OutOfMemory) }
-{
-    let world = run_serial(alloc, &setup, quanta)?;
-    let groups = world.groups_from(alloc, 0)?;
-    let report = report(alloc, &world)?;
-    Ok(Outcome { groups, report })
-}
-
-// Takes the groups of a run to its bank, telling the lines of each, and then tells its report.
-fn keep_and_report<D: Desk>(
+// Runs the setup with a crew, takes the groups to the bank as they come, telling the lines of each, and gives the report.
+fn run_with_crew<R: Threads + Wait + Sync, G: Gate + Sync, D: Desk>(
+    rt: &R,
     alloc: Global,
     desk: &mut D,
+    gate: &G,
     bank: Bank,
-    groups: Groups,
-    report: &Text,
-) -> Result<(), RunStop>
-    requires disk_sound { D.disk_faults desk.old ≡ 0 }
-    requires tell_sound { D.tell_faults desk.old ≡ 0 }
-    requires at_rest { IfSome (D.reads desk.old) (IsAtRest bank.digest bank.groups) }
-    requires durable { Only (D.reads desk.old) (D.may_leave desk.old) }
-    ensures at_rest { OnOk result (IfSome (D.reads desk.new) (IsAtRest bank.digest (completed bank.groups groups))) }
-    ensures durable { OnOk result (Only (D.reads desk.new) (D.may_leave desk.new)) }
-    ensures still { OnOk result (StaysTold (D.reads desk.old) (D.reads desk.new)) }
-    ensures fits { OnOk result (FitsAsFar bank.groups groups) }
-    ensures differs { IfErr result (λ s. IfDiffers s (λ k. IsFirstToDiffer bank.groups groups k × (D.reads desk.new ≡ D.reads desk.old)
-        × Appended (D.told desk.old) (saved_lines (take k groups)) (D.told desk.new))) }
-    ensures moments { IfSome (D.reads desk.old) (λ file. Elapses D.moment D.moments desk.old desk.new
-        (IsKeeping bank.digest bank.groups groups (D.told desk.old))) }
-    ensures told { OnOk result (Appended (D.told desk.old) (saved_lines groups ++ report.now) (D.told desk.new)) }
-    ensures partly { OnErr result (AppendedSome (D.told desk.old) (saved_lines groups ++ report.now) (D.told desk.new)) }
-    ensures counts { CountsStops (D.disk_faults desk.new) (D.tell_faults desk.new) result }
+    setup: Setup,
+    quanta: u64,
+    workers: u32,
+) -> Result<Text, RunStop>
+    requires quanta { (1 ≤ quanta) × (quanta ≤ 4000000) }
+    requires workers { (1 ≤ workers) × (workers ≤ 64) }
+    requires attached { IsAttached bank (D.state desk.old) }
+    ensures report { IfOk result (λ text. text ≡ run_report setup quanta) }
+    ensures completed { OnOk result (Completes bank (run_groups setup quanta) (D.state desk.old) (D.state desk.new)) }
+    ensures differs { IfErr result (λ s. IfDiffers s (λ k. IsFirstToDiffer bank.groups (run_groups setup quanta) k
+        × Appended (D.state desk.old).told (saved_lines (take k (run_groups setup quanta))) (D.state desk.new).told)) }
+
+    // Where a group differs, whatever comes, the disk is left alone.
+    ensures kept { (k : ℕ) → IsFirstToDiffer bank.groups (run_groups setup quanta) k → KeepsDisk (D.state desk.old) (D.state desk.new) }
+    ensures moments { IfSome (D.state desk.old).reads (λ file. Elapses (D.state desk.old) (D.state desk.new)
+        (IsKeeping bank.digest bank.groups (run_groups setup quanta) (D.state desk.old).told)) }
+    ensures told { TellsText (D.state desk.old) (D.state desk.new) (saved_lines (run_groups setup quanta)) result }
+    ensures counts { CountsStops result (D.state desk.new) }
 {
-    keep_groups(alloc, desk, bank, groups)?;
+    let start = Start {
+        setup: Snapshot::of(&setup),
+        quanta,
+        desk: Snapshot::of(&*desk),
+        bank: Snapshot::of(&bank),
+    };
+    let mut keeper = Keeper {
+        bank: Some(bank),
+        done: 0,
+        stopped: None,
+    };
+    let Ok(book) = Book::begin(alloc, setup, quanta, 2 * workers) else {
+        return Err(RunStop::OutOfMemory);
+    };
+    keep_book(rt, alloc, gate, &start, desk, &mut keeper, book, workers)
+}
+
+// The same, and then tells the report.
+fn keep_and_report<R: Threads + Wait + Sync, G: Gate + Sync, D: Desk>(
+    rt: &R,
+    alloc: Global,
+    desk: &mut D,
+    gate: &G,
+    bank: Bank,
+    setup: Setup,
+    quanta: u64,
+    workers: u32,
+) -> Result<(), RunStop>
+    requires quanta { (1 ≤ quanta) × (quanta ≤ 4000000) }
+    requires workers { (1 ≤ workers) × (workers ≤ 64) }
+    requires attached { IsAttached bank (D.state desk.old) }
+    ensures completed { OnOk result (Completes bank (run_groups setup quanta) (D.state desk.old) (D.state desk.new)) }
+    ensures differs { IfErr result (λ s. IfDiffers s (λ k. IsFirstToDiffer bank.groups (run_groups setup quanta) k
+        × Appended (D.state desk.old).told (saved_lines (take k (run_groups setup quanta))) (D.state desk.new).told)) }
+    ensures kept { (k : ℕ) → IsFirstToDiffer bank.groups (run_groups setup quanta) k → KeepsDisk (D.state desk.old) (D.state desk.new) }
+    ensures moments { IfSome (D.state desk.old).reads (λ file. Elapses (D.state desk.old) (D.state desk.new)
+        (IsKeeping bank.digest bank.groups (run_groups setup quanta) (D.state desk.old).told)) }
+    ensures told { TellsText (D.state desk.old) (D.state desk.new) (run_text setup quanta) result }
+    ensures counts { CountsStops result (D.state desk.new) }
+{
+    let report = run_with_crew(rt, alloc, desk, gate, bank, setup, quanta, workers)?;
     desk.tell(&report.items)?;
     Ok(())
 }
 
 /// Runs the setup: attaches its genebank, takes the run's groups to it, telling the lines of each, and tells the report.
-pub(crate) fn run<D: Desk>(
+pub(crate) fn run<R: Threads + Wait + Sync, G: Gate + Sync, D: Desk>(
+    rt: &R,
     alloc: Global,
     desk: &mut D,
+    gate: &G,
     setup: Setup,
     quanta: u64,
+    workers: u32,
 ) -> Result<(), RunStop>
-    requires few { quanta ≤ 4000000 }
-    requires disk_sound { D.disk_faults desk.old ≡ 0 }
-    requires tell_sound { D.tell_faults desk.old ≡ 0 }
-    ensures told { OnOk result (Appended (D.told desk.old) (run_text setup quanta) (D.told desk.new)) }
-    ensures partly { OnErr result (AppendedSome (D.told desk.old) (run_text setup quanta) (D.told desk.new)) }
-    ensures begins { OnOk result (IfSome (D.reads desk.old) (λ file. BeginsWith setup quanta file (D.reads desk.new) (D.may_leave desk.new))) }
-    ensures refused { IfErr result (λ s. IfRefused s (λ f. IfSome (D.reads desk.old) (λ file. RefusesRun setup quanta file f
-        × (D.reads desk.new ≡ D.reads desk.old) × IsToldAtRefusal (run_groups setup quanta) (D.told desk.old) (D.told desk.new) f
-        × UnlessDiffers f (Elapses D.moment D.moments desk.old desk.new (WithText (D.told desk.old) (D.may_leave desk.old)))))) }
-    ensures moments { DiskIsOfHistory setup (D.reads desk.old) (D.may_leave desk.old)
-        → Elapses D.moment D.moments desk.old desk.new (IsTrueMoment setup quanta (D.told desk.old)) }
-    ensures counts { CountsStops (D.disk_faults desk.new) (D.tell_faults desk.new) result }
+    requires quanta { (1 ≤ quanta) × (quanta ≤ 4000000) }
+    requires workers { (1 ≤ workers) × (workers ≤ 64) }
+    requires sound { HasNoFault (D.state desk.old) }
+    ensures told { TellsText (D.state desk.old) (D.state desk.new) (run_text setup quanta) result }
+    ensures begins { OnOk result (IfSome (D.state desk.old).reads (λ file. BeginsWith setup quanta file (D.state desk.new).reads (D.state desk.new).may_leave)) }
+    ensures refused { IfErr result (λ s. IfRefused s (λ f. IfSome (D.state desk.old).reads (λ file. RefusesRun setup quanta file f
+        × ((D.state desk.new).reads ≡ (D.state desk.old).reads) × IsToldAtRefusal (run_groups setup quanta) (D.state desk.old).told (D.state desk.new).told f))) }
+
+    // Where the file as it was read is refused to the run, it is not written at any moment, whatever comes.
+    ensures quiet { IfSome (D.state desk.old).reads (λ file. (f : BankFault) → RefusesRun setup quanta file f
+        → Elapses (D.state desk.old) (D.state desk.new) (λ image text. (D.state desk.old).may_leave image)) }
+    ensures moments { DiskIsOfHistory setup (D.state desk.old).reads (D.state desk.old).may_leave → Elapses (D.state desk.old) (D.state desk.new) (IsTrueMoment setup quanta (D.state desk.old).told) }
+    ensures counts { CountsStops result (D.state desk.new) }
 {
     let bank = match attach(alloc, desk, &setup) {
         Ok(bank) => bank,
         Err(stop) => return Err(stop),
     };
-    let Outcome { groups, report } = outcome_of(alloc, setup, quanta)?;
-    keep_and_report(alloc, desk, bank, groups, &report)
+    keep_and_report(rt, alloc, desk, gate, bank, setup, quanta, workers)
 }

@@ -1,69 +1,89 @@
-use Rattle.std.proofs.Common.{rules, ◌≡◌, ◌++◌, [], refl, sym, subst, append-nil, List, ℕ}
+use Rattle.std.proofs.Common.{rules, ◌≡◌, ◌++◌, [], refl, sym, subst, append-nil, List, ℕ, IfSome}
+use Rattle.std.proofs.lemmas.Result.{err_from_is_err_and}
 use Rattle.report_text.specs.Bank.{saved_lines}
-use Rattle.desk_io.specs.Desk.{Appended, AppendedSome}
+use Rattle.desk_io.specs.Desk.{Appended, AppendedSome, Elapses}
+use Rattle.desk_io.proofs.Time.{KeepsDisk-telling, KeepsDisk-then}
 use Rattle.soup_top.specs.Keeping.{IsKeeping}
-use Rattle.soup_top.proofs.RunMoments.{on_err, report-time}
+use Rattle.soup_top.specs.Sources.{run_groups, run_report}
+use Rattle.soup_top.proofs.RunMoments.{Completes-untouched, report-time}
 use Rattle.soup_top.proofs.Taking.{times_then}
 use Rattle.soup_top.proofs.Telling.{all_told, none_told, piece_begun, piece_told}
+use Rattle.soup_top.proofs.running.keep_and_report.Given.{Over}
 use Rattle.soup_top.proofs.running.keep_and_report.Goals as goal
+use Rattle.soup_top.proofs.running.keep_and_report.Goals.{After-tell}
 
-pub returns-in_err-keep_groups-clause-partly : goal.returns-in_err-keep_groups-clause-partly
-returns-in_err-keep_groups-clause-partly g c =
-    let before = g.D.Desk.told c.args.desk.now in
-    let now = g.D.Desk.told c.keep_groups.new.desk in
-    let lines = saved_lines c.args.groups in
-    let whole = lines ++ c.args.report.now in
-    on_err c.from_residual.result (AppendedSome before whole now)
-    (piece_begun lines c.args.report.now refl (none_told whole before) c.in_err-keep_groups.ensures.partly)
+-- the moments to the end of the report
+reported : (g : Over) (c : After-tell g) → IfSome (g.D.Desk.state c.args.desk.now).reads
+    (λ file. Elapses (g.D.Desk.state c.args.desk.now) (g.D.Desk.state c.tell.new.self)
+    (IsKeeping c.args.bank.digest c.args.bank.groups (run_groups c.args.setup c.args.quanta) (g.D.Desk.state c.args.desk.now).told))
+reported g c =
+    let old = g.D.Desk.state c.args.desk.now in
+    let mid = g.D.Desk.state c.run_with_crew.new.desk in
+    let new = g.D.Desk.state c.tell.new.self in
+    let had = c.args.bank in
+    let run = run_groups c.args.setup c.args.quanta in
+    let kept = c.in_ok-report.ensures in
+    let all = kept.completed in
+    let last = report-time mid new had.digest had.groups run old.told (saved_lines run) c.deref.result.now all.at_rest all.settled.durable all.fits
+    kept.told.all c.tell.ensures.call.tells in
+    times_then old mid new (IsKeeping had.digest had.groups run old.told) all.still c.run_with_crew.ensures.moments last
 
-pub returns-in_err-tell-clause-partly : goal.returns-in_err-tell-clause-partly
-returns-in_err-tell-clause-partly g c =
-    let before = g.D.Desk.told c.args.desk.now in
-    let mid = g.D.Desk.told c.keep_groups.new.desk in
-    let now = g.D.Desk.told c.tell.new.self in
-    let lines = saved_lines c.args.groups in
-    let report = c.args.report.now in
+pub returns-in_err-report-clause-told : goal.returns-in_err-report-clause-told
+returns-in_err-report-clause-told g c =
+    let old = g.D.Desk.state c.args.desk.now in
+    let lines = saved_lines (run_groups c.args.setup c.args.quanta) in
+    let report = run_report c.args.setup c.args.quanta in
+    let whole = lines ++ report in
+    let stop = err_from_is_err_and c.from_residual.result c.from_residual.ensures.1 in
+    rw stop.1 (record { all = tt; partly = piece_begun lines report refl (none_told whole old.told) c.in_err-report.ensures.told.partly })
+
+pub returns-in_err-tell-clause-told : goal.returns-in_err-tell-clause-told
+returns-in_err-tell-clause-told g c =
+    let before = (g.D.Desk.state c.args.desk.now).told in
+    let mid = (g.D.Desk.state c.run_with_crew.new.desk).told in
+    let now = (g.D.Desk.state c.tell.new.self).told in
+    let lines = saved_lines (run_groups c.args.setup c.args.quanta) in
+    let report = run_report c.args.setup c.args.quanta in
     let whole = lines ++ report in
     let text : c.deref.result.now ≡ report = search rules in
-    let kept = piece_told lines report refl (none_told whole before) c.in_ok-keep_groups.ensures.told in
-    let part = subst (λ (l : List ℕ). AppendedSome mid l now) text c.in_err-tell.ensures.partly in
-    on_err c.from_residual-in_err-tell.result (AppendedSome before whole now) (piece_begun report [] (sym (append-nil report)) kept part)
+    let kept = piece_told lines report refl (none_told whole before) c.in_ok-report.ensures.told.all in
+    let part = subst (λ (l : List ℕ). AppendedSome mid l now) text c.in_err-tell.ensures.call.tells.text.partly in
+    let stop = err_from_is_err_and c.from_residual-in_err-tell.result c.from_residual-in_err-tell.ensures.1 in
+    rw stop.1 (record { all = tt; partly = piece_begun report [] (sym (append-nil report)) kept part })
 
 pub returns-in_err-tell-clause-moments : goal.returns-in_err-tell-clause-moments
-returns-in_err-tell-clause-moments g c =
-    let old = c.args.desk.now in
-    let mid = c.keep_groups.new.desk in
-    let new = c.tell.new.self in
-    let had = c.args.bank in
-    let run = c.args.groups in
-    let kept = c.in_ok-keep_groups.ensures in
-    let last = report-time g.D.Desk.moment g.D.Desk.moments mid new had.digest had.groups run (g.D.Desk.reads mid) (g.D.Desk.told mid) (g.D.Desk.told old)
-    (saved_lines run) c.deref.result.now (g.D.Desk.may_leave mid) (g.D.Desk.may_leave new) kept.at_rest kept.durable c.tell.ensures.crash kept.fits kept.told c.tell.ensures.time in
-    times_then g.D.Desk.moment g.D.Desk.moments old mid new (g.D.Desk.reads old) (g.D.Desk.reads mid) (IsKeeping had.digest had.groups run (g.D.Desk.told old))
-    kept.still c.keep_groups.ensures.moments last
+returns-in_err-tell-clause-moments g c = reported g (goal.at.returns-in_err-tell-clause-moments g c).After-tell
+
+pub returns-in_err-tell-clause-kept : goal.returns-in_err-tell-clause-kept
+returns-in_err-tell-clause-kept g c = λ k first.
+    let state = g.D.Desk.state in
+    KeepsDisk-then (state c.args.desk.now) (state c.run_with_crew.new.desk) (state c.tell.new.self)
+    (c.run_with_crew.ensures.kept k first) (KeepsDisk-telling (state c.run_with_crew.new.desk) (state c.tell.new.self) _ c.tell.result c.tell.ensures.call.tells)
+
+pub returns-clause-completed : goal.returns-clause-completed
+returns-clause-completed g c =
+    let state = g.D.Desk.state in
+    Completes-untouched c.args.bank (run_groups c.args.setup c.args.quanta) (state c.args.desk.now) (state c.run_with_crew.new.desk) (state c.tell.new.self)
+    c.in_ok-report.ensures.completed c.tell.ensures.call.tells.untouched c.in_ok-tell.ensures.call.ok
+
+pub returns-clause-kept : goal.returns-clause-kept
+returns-clause-kept g c = λ k first.
+    let state = g.D.Desk.state in
+    KeepsDisk-then (state c.args.desk.now) (state c.run_with_crew.new.desk) (state c.tell.new.self)
+    (c.run_with_crew.ensures.kept k first) (KeepsDisk-telling (state c.run_with_crew.new.desk) (state c.tell.new.self) _ c.tell.result c.tell.ensures.call.tells)
 
 pub returns-clause-moments : goal.returns-clause-moments
-returns-clause-moments g c =
-    let old = c.args.desk.now in
-    let mid = c.keep_groups.new.desk in
-    let new = c.tell.new.self in
-    let had = c.args.bank in
-    let run = c.args.groups in
-    let kept = c.in_ok-keep_groups.ensures in
-    let last = report-time g.D.Desk.moment g.D.Desk.moments mid new had.digest had.groups run (g.D.Desk.reads mid) (g.D.Desk.told mid) (g.D.Desk.told old)
-    (saved_lines run) c.deref.result.now (g.D.Desk.may_leave mid) (g.D.Desk.may_leave new) kept.at_rest kept.durable c.tell.ensures.crash kept.fits kept.told c.tell.ensures.time in
-    times_then g.D.Desk.moment g.D.Desk.moments old mid new (g.D.Desk.reads old) (g.D.Desk.reads mid) (IsKeeping had.digest had.groups run (g.D.Desk.told old))
-    kept.still c.keep_groups.ensures.moments last
+returns-clause-moments g c = reported g (goal.at.returns-clause-moments g c).After-tell
 
 pub returns-clause-told : goal.returns-clause-told
 returns-clause-told g c =
-    let before = g.D.Desk.told c.args.desk.now in
-    let mid = g.D.Desk.told c.keep_groups.new.desk in
-    let now = g.D.Desk.told c.tell.new.self in
-    let lines = saved_lines c.args.groups in
-    let report = c.args.report.now in
+    let before = (g.D.Desk.state c.args.desk.now).told in
+    let mid = (g.D.Desk.state c.run_with_crew.new.desk).told in
+    let now = (g.D.Desk.state c.tell.new.self).told in
+    let lines = saved_lines (run_groups c.args.setup c.args.quanta) in
+    let report = run_report c.args.setup c.args.quanta in
     let whole = lines ++ report in
     let text : c.deref.result.now ≡ report = search rules in
-    let kept = piece_told lines report refl (none_told whole before) c.in_ok-keep_groups.ensures.told in
-    let all = piece_told report [] (sym (append-nil report)) kept (subst (λ (l : List ℕ). Appended mid l now) text c.in_ok-tell.ensures.appended) in
-    all_told whole before now all
+    let kept = piece_told lines report refl (none_told whole before) c.in_ok-report.ensures.told.all in
+    let all = piece_told report [] (sym (append-nil report)) kept (subst (λ (l : List ℕ). Appended mid l now) text c.in_ok-tell.ensures.call.tells.text.all) in
+    record { all = all_told whole before now all; partly = tt }

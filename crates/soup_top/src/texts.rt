@@ -1,0 +1,49 @@
+//! What the actions tell of a soup file, and of the genebank.
+
+ghost use Rattle.std.specs.Prelude.{◌≡◌, ◌≤◌, IfOk};
+ghost use Rattle.soup_words.specs.Orders.{IsInRange};
+ghost use Rattle.soup_top.specs.Sources.{file_text, groups_text};
+
+use genotype_probe::probe_text;
+use report_text::{bank_text, dump};
+use run_log::curve;
+use schedule_drill::drill_text;
+use serial_slicer::run_serial;
+use soup_words::{Action, Order};
+use std::alloc::Global;
+use std::thread::Threads;
+use tierra_model::{Groups, OutOfMemory, Setup, Text};
+
+/// What the order tells of the setup of a soup file.
+pub(crate) fn file_text(alloc: Global, order: Order, setup: Setup) -> Result<Text, OutOfMemory>
+    requires range { IsInRange order }
+    ensures { IfOk result (λ text. text ≡ file_text order setup) }
+{
+    match order.action {
+        Action::Dump => dump(alloc, &run_serial(alloc, &setup, order.quanta)?),
+        Action::Drill => drill_text(alloc, setup, order.quanta, order.number),
+        Action::Curve => curve(alloc, &setup, order.quanta, order.every),
+        _ => Ok(Text {
+            items: Vec::new(alloc),
+        }),
+    }
+}
+
+/// What the order tells of the groups of the genebank.
+pub(crate) fn groups_text<R: Threads + Sync>(
+    rt: &R,
+    alloc: Global,
+    order: Order,
+    groups: &Groups,
+) -> Result<Text, OutOfMemory>
+    requires range { IsInRange order }
+    ensures { IfOk result (λ text. text ≡ groups_text order groups.now) }
+{
+    match order.action {
+        Action::Bank => bank_text(alloc, groups),
+        Action::Probe => probe_text(rt, alloc, groups, order.quanta, order.workers),
+        _ => Ok(Text {
+            items: Vec::new(alloc),
+        }),
+    }
+}
