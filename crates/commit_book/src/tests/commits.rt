@@ -24,13 +24,13 @@ creature = [
 ]
 "#;
 
-/// Creatures that ask for daughter blocks in a soup that has room for few of them, so that some die, with every mutation.
+/// Creatures that ask for daughter blocks in a soup that has room for few of them, so that some die, with mutation.
 const CROWDED: &str = r#"
 soup_size = 200
 slice_size = 20
-copy_rate = 5
-back_rate = 3
-flaw_rate = 7
+copy_rate = 20
+back_rate = 40
+flaw_rate = 500
 dist_every = 97
 dist_percent = 40
 save_at = 1
