@@ -171,7 +171,10 @@ fn report_of(alloc: Global, book: Book) -> Result<Text, RunStop>
     ensures report { IfOk result (λ text. text ≡ report (world_of book)) }
     ensures memory { IfErr result (λ s. s ≡ RunStop.OutOfMemory) }
 {
-    Ok(report(alloc, book.world())?)
+    match report(alloc, book.world()) {
+        Ok(text) => Ok(text),
+        Err(_) => Err(RunStop::OutOfMemory),
+    }
 }
 
 /// Runs the book with a crew, takes its groups to the bank as they come, and gives the report of its world.

@@ -1,6 +1,8 @@
 //! What the actions tell of a soup file, and of the genebank.
 
 ghost use Rattle.std.specs.Prelude.{◌≡◌, ◌≤◌, IfOk};
+ghost use Rattle.tierra_model.specs.Serial.{serial};
+ghost use Rattle.report_text.specs.Dump.{dump};
 ghost use Rattle.soup_words.specs.Orders.{IsInRange};
 ghost use Rattle.soup_top.specs.Sources.{file_text, groups_text};
 
@@ -10,7 +12,7 @@ use run_log::curve;
 use schedule_drill::drill_text;
 use serial_slicer::run_serial;
 use soup_words::{Action, Order};
-use std::alloc::Global;
+use std::alloc::{AllocError, Global};
 use std::thread::Threads;
 use tierra_model::{Groups, OutOfMemory, Setup, Text};
 
@@ -20,12 +22,26 @@ pub(crate) fn file_text(alloc: Global, order: Order, setup: Setup) -> Result<Tex
     ensures { IfOk result (λ text. text ≡ file_text order setup) }
 {
     match order.action {
-        Action::Dump => dump(alloc, &run_serial(alloc, &setup, order.quanta)?),
+        Action::Dump => dump_after(alloc, &setup, order.quanta),
         Action::Drill => drill_text(alloc, setup, order.quanta, order.number),
         Action::Curve => curve(alloc, &setup, order.quanta, order.every),
         _ => Ok(Text {
             items: Vec::new(alloc),
         }),
+    }
+}
+
+/// The dump of the world after so many quanta.
+fn dump_after(alloc: Global, setup: &Setup, quanta: u64) -> Result<Text, OutOfMemory>
+    requires { quanta ≤ 4000000 }
+    ensures { IfOk result (λ text. text ≡ dump (serial setup.now quanta)) }
+{
+    let Ok(world) = run_serial(alloc, setup, quanta) else {
+        return Err(AllocError);
+    };
+    match dump(alloc, &world) {
+        Ok(text) => Ok(text),
+        Err(_) => Err(AllocError),
     }
 }
 
