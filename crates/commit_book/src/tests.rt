@@ -1,8 +1,5 @@
 //! A book hands out jobs, and stands behind the turn lock.
 
-mod commits;
-mod findings;
-
 ghost use Rattle.std.specs.Prelude.{◌≡◌, ◌^◌, ◌<◌, IfOk, length};
 ghost use Rattle.tierra_model.specs.Ranges.{IsCode};
 
