@@ -102,6 +102,34 @@ fn draws_are_the_words_of_the_stream(rt: HostRuntime) {
     }
 }
 
+// Instruction 0 and those after it in order, and then one far away.
+const TURNS: [u32; 22] = [
+    0, 1, 2, 3, 4, 5, 6, 7, 8, 9, 10, 11, 12, 13, 14, 15, 16, 17, 18, 18, 9999, 0,
+];
+
+#[test]
+fn a_turn_changes_no_draw(rt: HostRuntime) {
+    for rate in [1, 2, 7] {
+        let settings = settings(RISING, rate);
+        let mut turned = Draws::new(&settings, 1);
+        for i in TURNS {
+            turned.turn_to(i);
+            let still = Draws::new(&settings, 1);
+            assert_eq!(rt;
+                turned.flaw(i),
+                still.flaw(i),
+                "instruction {i} rate {rate}"
+            );
+            assert_eq!(rt;
+                turned.copy_bit(i),
+                still.copy_bit(i),
+                "instruction {i} rate {rate}"
+            );
+            assert_eq!(rt; turned.back(), still.back(), "rate {rate}");
+        }
+    }
+}
+
 // No word of these rows is 0 or the greatest number.
 #[test]
 fn nothing_is_drawn_at_no_rate_and_at_the_greatest(rt: HostRuntime) {

@@ -30,10 +30,11 @@ pub fn run_slice<G: Ground, L: Ledger>(
     ensures ticks { OnOk result (steps.new ≡ steps.old + slice) }
     ensures err { OnErr result G.Refusal }
 {
-    let draws = Draws::new(settings, quantum);
+    let mut draws = Draws::new(settings, quantum);
     flip(ground, &draws);
     disturb(ground, settings, quantum)?;
     for i in 0..slice {
+        draws.turn_to(i);
         instruction(ground, &draws, i, settings, steps)?;
     }
     Ok(())
