@@ -4,6 +4,7 @@
 mod genes;
 mod groups;
 mod living;
+mod places;
 mod population;
 mod prepared;
 mod running;

@@ -9,16 +9,21 @@ ghost use Rattle.tierra_model.specs.Counting.{times_in};
 ghost use Rattle.tierra_model.specs.Living.{ids_of, with_record, without};
 ghost use Rattle.tierra_model.specs.Sound.{Ordered};
 
+use crate::places::Places;
 use std::alloc::Global;
 use std::collections::VecDeque;
 use std::marker::Model;
 use tierra_model::{Creature, OutOfMemory};
 
-/// The records of the living. A creature is found by its birth number, in steps that grow with the logarithm of how
-/// many live.
+// So many places are looked at before a search. Deaths of later-born creatures move a record by less than was counted.
+const NEAR: usize = 4;
+
+/// The records of the living. A creature is found by its birth number, where it was seen last, or else in steps that
+/// grow with the logarithm of how many live.
 #[derive(Drop)]
 pub(crate) struct Living {
     creatures: VecDeque<Creature>,
+    places: Places,
 }
 
 impl Model for Living {
@@ -42,6 +47,7 @@ impl Living {
     {
         Living {
             creatures: VecDeque::new(alloc),
+            places: Places::new(alloc),
         }
     }
 
@@ -52,14 +58,17 @@ impl Living {
         ensures err { OnErr result (self.old.spare < more) }
         ensures room { self.old.spare ≤ self.new.spare }
     {
-        self.creatures.reserve(more as usize)
+        self.creatures.reserve(more as usize)?;
+        let creatures = self.creatures.len().saturating_add(more as usize);
+        self.places.make_room(creatures);
+        Ok(())
     }
 
     /// The record of a creature, if it lives.
     pub(crate) fn get(&self, id: u64) -> Option<&Creature>
         ensures { option_copied result ≡ find (λ c. c.id == id) self.now.creatures }
     {
-        let place = place_of(&self.creatures, id)?;
+        let place = place_of(&self.creatures, &self.places, id)?;
         Some(&self.creatures[place])
     }
 
@@ -69,8 +78,11 @@ impl Living {
         ensures creatures { self.new.creatures ≡ with_record creature self.old.creatures }
         ensures room { self.new.spare ≡ self.old.spare }
     {
-        match place_of(&self.creatures, creature.id) {
-            Some(place) => self.creatures[place] = creature,
+        match place_of(&self.creatures, &self.places, creature.id) {
+            Some(place) => {
+                self.creatures[place] = creature;
+                self.places.note(creature.id, place);
+            }
             None => unreachable!(),
         }
     }
@@ -83,6 +95,7 @@ impl Living {
         ensures creatures { self.new.creatures ≡ self.old.creatures ++ newborn ∷ [] }
         ensures room { self.old.spare ≡ self.new.spare + 1 }
     {
+        self.places.note(newborn.id, self.creatures.len());
         self.creatures.push_back_reserved(newborn);
     }
 
@@ -92,9 +105,10 @@ impl Living {
         ensures creatures { self.new.creatures ≡ without id self.old.creatures }
         ensures room { self.new.spare ≡ self.old.spare + 1 }
     {
-        match place_of(&self.creatures, id) {
+        match place_of(&self.creatures, &self.places, id) {
             Some(place) => {
                 self.creatures.remove(place);
+                self.places.note_leaving();
             }
             None => unreachable!(),
         }
@@ -102,7 +116,31 @@ impl Living {
 }
 
 // Where the creature stands, if it does.
-fn place_of(creatures: &VecDeque<Creature>, id: u64) -> Option<usize>
+fn place_of(creatures: &VecDeque<Creature>, places: &Places, id: u64) -> Option<usize>
+    requires { Ordered 1 (ids_of creatures.now.items) }
+    ensures some { IfSome result (λ place. HoldsAt (λ c. c.id ≡ id) creatures.now.items place × (place < length creatures.now.items)) }
+    ensures none { IfNone result (times_in (ids_of creatures.now.items) id ≡ 0) }
+{
+    match place_near(creatures, places.place(id), id) {
+        Some(place) => Some(place),
+        None => search(creatures, id),
+    }
+}
+
+// Where the creature stands, if that is one of the few places from the first on.
+fn place_near(creatures: &VecDeque<Creature>, first: usize, id: u64) -> Option<usize>
+    ensures { IfSome result (λ place. HoldsAt (λ c. c.id ≡ id) creatures.now.items place × (place < length creatures.now.items)) }
+{
+    for place in first..first.saturating_add(NEAR).min(creatures.len()) {
+        if creatures[place].id == id {
+            return Some(place);
+        }
+    }
+    None
+}
+
+// Where the creature stands, if it does, by a search.
+fn search(creatures: &VecDeque<Creature>, id: u64) -> Option<usize>
     requires { Ordered 1 (ids_of creatures.now.items) }
     ensures some { IfSome result (λ place. HoldsAt (λ c. c.id ≡ id) creatures.now.items place × (place < length creatures.now.items)) }
     ensures none { IfNone result (times_in (ids_of creatures.now.items) id ≡ 0) }

@@ -4,8 +4,8 @@ use Rattle.tierra_model.specs.declared.creatures.Creature.{Creature}
 use Rattle.tierra_model.specs.Counting.{times_in}
 use Rattle.tierra_model.specs.Living.{ids_of, nobody}
 use Rattle.world_core.proofs.BirthNumbers.{ids-rise, none-around}
-use Rattle.world_core.proofs.living.place_of.Goals as goal
-use Rattle.world_core.proofs.living.place_of.Goals.{else-place-len-via-then-place-len+else-index-id, else-place-len-via-else-place-len}
+use Rattle.world_core.proofs.living.search.Goals as goal
+use Rattle.world_core.proofs.living.search.Goals.{else-place-len-via-then-place-len+else-index-id, else-place-len-via-else-place-len}
 
 pub born_before-place-requires : goal.born_before-place-requires
 born_before-place-requires c = ids-rise 1 c.args.creatures.now.items c.requires
