@@ -14,7 +14,11 @@ pub fn addr(v: i32, n: u32) -> u32
     ensures value { result ≡ address v n }
     ensures below { result < n }
 {
-    v.rem_euclid(n as i32) as u32
+    if 0 <= v && (v as u32) < n {
+        v as u32
+    } else {
+        v.rem_euclid(n as i32) as u32
+    }
 }
 
 /// The sum, modulo 2 ^ 32.

@@ -1,5 +1,5 @@
 pub mod Passing
-mod Modulo
+pub mod Modulo
 pub mod Comparing
 pub mod Reading
 pub mod Trying

@@ -15,7 +15,7 @@ ghost use Rattle.tierra_model.specs.Search.{candidates, search_for, try_each};
 ghost use Rattle.template_search.specs.Sides.{on_sides};
 ghost use Rattle.template_search.specs.Places.{IfAt};
 
-use crate::places::{next_place, previous_place};
+use crate::places::{next_place, place_at, previous_place};
 use crate::template::{is_complement, read_template};
 use tierra_model::View;
 pub use tierra_model::{Found, Way};
@@ -38,13 +38,12 @@ pub fn search<V: View>(view: &mut V, ip: u32, way: Way, limit: u32, min: u32) ->
     }
     let nops = &template.cells[..template.len as usize];
     match nearest(view, nops, ip, way, limit, size) {
-        Some(start) => Found::At((start + template.len) % size),
+        Some(start) => Found::At(place_at(start + template.len, size)),
         None => Found::NoMatch,
     }
 }
 
-// The nearest candidate that is a complement.
-#[tactic(auto, using(crate::proofs::Distances::search_begins, crate::proofs::Distances::search_fails))]
+// The nearest candidate that is a complement. Each way has a loop of its own.
 fn nearest<V: View>(
     view: &mut V,
     nops: &[u8],
@@ -60,9 +59,33 @@ fn nearest<V: View>(
     ensures passes { Passes V.cells V.looked (try_each size nops.now (candidates size ip (length nops.now) way limit 1)) view.old view.new result }
     ensures below { IfSome result (λ p. p < size) }
 {
+    match way {
+        Way::Outward => nearest_of(view, nops, ip, Way::Outward, limit, size),
+        Way::Forward => nearest_of(view, nops, ip, Way::Forward, limit, size),
+        Way::Backward => nearest_of(view, nops, ip, Way::Backward, limit, size),
+    }
+}
+
+#[inline(always)]
+#[tactic(auto, using(crate::proofs::Distances::search_begins, crate::proofs::Distances::search_fails))]
+fn nearest_of<V: View>(
+    view: &mut V,
+    nops: &[u8],
+    ip: u32,
+    way: Way,
+    limit: u32,
+    size: u32,
+) -> Option<u32>
+    requires ip { ip < size }
+    requires size { size ≡ V.size view.old }
+    requires cells { size ≤ 1048576 }
+    requires short { length nops.now ≤ 10 }
+    ensures passes { Passes V.cells V.looked (try_each size nops.now (candidates size ip (length nops.now) way limit 1)) view.old view.new result }
+    ensures below { IfSome result (λ p. p < size) }
+{
     let len = nops.len() as u32;
-    let mut ahead = (ip + (len + 1)) % size;
-    let mut behind = (ip + 1 + (size - (len + 1) % size)) % size;
+    let mut ahead = place_at(ip + (len + 1), size);
+    let mut behind = place_at(ip + 1 + (size - place_at(len + 1, size)), size);
     for _ in 0..limit {
         if let Some(start) = match_near(view, nops, way, ahead, behind, size) {
             return Some(start);

@@ -2,6 +2,22 @@
 
 ghost use Rattle.std.specs.Prelude.{◌≡◌, ◌<◌, ◌+◌, ◌%◌};
 
+/// The place that a number names. Only numbers of twice the size and more are divided.
+#[tactic(auto, using(crate::proofs::Modulo::mod_once))]
+pub fn place_at(number: u32, size: u32) -> u32
+    requires { 0 < size }
+    ensures place { result ≡ number % size }
+    ensures below { result < size }
+{
+    if number < size {
+        number
+    } else if number - size < size {
+        number - size
+    } else {
+        number % size
+    }
+}
+
 /// The cell after `place`.
 pub fn next_place(place: u32, size: u32) -> u32
     requires { place < size }

@@ -8,7 +8,7 @@ returns-then-template-min-clause-passes g c =
 
 pub returns-in-Some-clause-passes : goal.returns-in-Some-clause-passes
 returns-in-Some-clause-passes g c =
-    rw (← c.size-size.ensures, ← c.read_template-template.ensures.len)
+    rw (← c.size-size.ensures, c.place_at.ensures.place, ← c.read_template-template.ensures.len)
     (is_tried _ _ _ _ _ _ _ _ _ _ _ c.next_place.ensures.next c.read_template-template.ensures.passes _ _ (omega (arith, c.read_template-template.ensures.len)) c.in-Some.ensures.passes)
 
 pub returns-in-None-clause-passes : goal.returns-in-None-clause-passes

@@ -2,7 +2,7 @@
 use Rattle.std.proofs.Common.{◌≡◌, ◌<◌, ◌+◌, length}
 use Rattle.template_search.proofs.Distances.{SearchesOn}
 use Rattle.template_search.proofs.Reaching.{Reaches}
-use Rattle.template_search.proofs.nearest.Given as goal
+use Rattle.template_search.proofs.nearest_of.Given as goal
 
 abbrev pub invariant-loop : goal.invariant-loop
 invariant-loop g l =
