@@ -85,11 +85,9 @@ module _ (s : Settings) (q i : ℕ) (c e : Creature) (v u : SoleFields) (a : Act
   pub mal_size : (size : ℕ) → a ≡ act.Mal size → (1 ≤ size) × (size ≤ 20000)
   mal_size size is = (let k = (of (act.Mal size) is).can in (k.2, k.3))
 
-  pub mal_world : (size : ℕ) (p m : SoleFields) → a ≡ act.Mal size → p.world ≡ put e u.world → m.world ≡ mal world_machine p.world.settings size p.world
-      → m.world ≡ Next s q i c v
-  mal_world size p m is before after =
-      after ∙ (λ j. mal world_machine (before j).settings size (before j))
-      ∙ ap (λ (z : Settings). mal world_machine z size (put e u.world)) x.settings
+  pub mal_is : (size : ℕ) → a ≡ act.Mal size → mal world_machine u.world.settings size (put e u.world) ≡ Next s q i c v
+  mal_is size is =
+      ap (λ (z : Settings). mal world_machine z size (put e u.world)) x.settings
       ∙ sym (of (act.Mal size) is).is
 
   -- ---- a divide
@@ -100,10 +98,10 @@ module _ (s : Settings) (q i : ℕ) (c e : Creature) (v u : SoleFields) (a : Act
   pub divide_can : a ≡ act.Divide → IsSome e.daughter × (1 ≤ e.ran)
   divide_can is = (let k = (of act.Divide is).can in (k.2, k.3))
 
-  pub divide_world : (p m : SoleFields) → a ≡ act.Divide → p.world ≡ put e u.world → m.world ≡ perform world_machine p.world.settings act.Divide p.world
-      → m.world ≡ Next s q i c v
-  divide_world p m is before after =
-      after ∙ ap (λ (w : World). perform world_machine s act.Divide w) before ∙ sym (of act.Divide is).is
+  pub divide_is : a ≡ act.Divide → perform world_machine u.world.settings act.Divide (put e u.world) ≡ Next s q i c v
+  divide_is is =
+      ap (λ (z : Settings). perform world_machine z act.Divide (put e u.world)) x.settings
+      ∙ sym (of act.Divide is).is
 
 -- the record that is taken out anew
 pub taken_out : (m n : SoleFields) (r : Creature) (w : World) → m.world ≡ w → IsRunning w → n.world ≡ m.world → r ≡ front m.world → put r n.world ≡ w

@@ -3,7 +3,8 @@
 ghost use Rattle.std.specs.Prelude.{◌≡◌, ◌+◌, ◌<◌, ◌^◌, OnOk, IsSome, ◌≤◌};
 ghost use Rattle.tierra_model.specs.declared.events.Act.TheVariants as act;
 ghost use Rattle.tierra_model.specs.Draw.{word};
-ghost use Rattle.tierra_model.specs.Quantum.{disturb, instruction, is_disturbed, perform, quantum, reap_times, world_machine};
+ghost use Rattle.tierra_model.specs.Quantum.{disturb, instruction, is_disturbed, mal, perform, quantum, reap_times, world_machine};
+ghost use Rattle.tierra_model.specs.Replay.{RecordFits};
 ghost use Rattle.tierra_model.specs.Sound.{IsSound};
 ghost use Rattle.tierra_model.specs.World.{front, put};
 ghost use Rattle.mutation_streams.specs.Draws.{draws_of};
@@ -32,12 +33,13 @@ pub(crate) fn run_quantum<L: Ledger>(
     requires settings { settings.now ≡ sole.old.world.settings }
     ensures { OnOk result (sole.new.world ≡ quantum sole.old.world) }
 {
-    let draws = Draws::new(settings, sole.quanta() + 1);
+    let mut draws = Draws::new(settings, sole.quanta() + 1);
     let slice = slice_of(sole.front().own.size, settings);
     sole.flip(&draws);
     disturb(sole, settings)?;
     let mut creature = sole.begin_turn();
     for i in 0..slice {
+        draws.turn_to(i);
         instruction(alloc, &mut creature, sole, &draws, i, settings, steps)?;
     }
     sole.put(creature);
@@ -106,19 +108,44 @@ fn instruction<L: Ledger>(
             sole.err();
             Ok(())
         }
-        Act::Mal { size } => {
-            sole.put(*creature);
-            mal(sole, size)?;
-            *creature = sole.begin_turn();
-            Ok(())
-        }
-        Act::Divide => {
-            sole.put(*creature);
-            divide(alloc, sole)?;
-            *creature = sole.begin_turn();
-            Ok(())
-        }
+        Act::Mal { size } => grow(creature, sole, size),
+        Act::Divide => breed(alloc, creature, sole),
     }
+}
+
+// A `mal` of the creature whose turn it is, whose record is put into the world and taken out anew. (The copies of the
+// record stand here and in `breed`, so that an instruction without them pays for none.)
+fn grow(creature: &mut Creature, sole: &mut Sole, size: u32) -> Result<(), OutOfMemory>
+    requires within { IsRunning sole.old.world }
+    requires fits { RecordFits (front sole.old.world) creature.old }
+    requires quantum { InQuantum (put creature.old sole.old.world) }
+    requires one { 1 ≤ size }
+    requires few { size ≤ 20000 }
+    requires next { IsRunning (mal world_machine sole.old.world.settings size (put creature.old sole.old.world)) }
+    ensures turn { OnOk result (IsTurn creature.new sole.new) }
+    ensures world { OnOk result (put creature.new sole.new.world ≡ mal world_machine sole.old.world.settings size (put creature.old sole.old.world)) }
+{
+    sole.put(*creature);
+    mal(sole, size)?;
+    *creature = sole.begin_turn();
+    Ok(())
+}
+
+// A divide of the creature whose turn it is, likewise.
+fn breed(alloc: Global, creature: &mut Creature, sole: &mut Sole) -> Result<(), OutOfMemory>
+    requires within { IsRunning sole.old.world }
+    requires fits { RecordFits (front sole.old.world) creature.old }
+    requires quantum { InQuantum (put creature.old sole.old.world) }
+    requires held { IsSome creature.old.daughter }
+    requires ran { 1 ≤ creature.old.ran }
+    requires next { IsRunning (perform world_machine sole.old.world.settings act.Divide (put creature.old sole.old.world)) }
+    ensures turn { OnOk result (IsTurn creature.new sole.new) }
+    ensures world { OnOk result (put creature.new sole.new.world ≡ perform world_machine sole.old.world.settings act.Divide (put creature.old sole.old.world)) }
+{
+    sole.put(*creature);
+    divide(alloc, sole)?;
+    *creature = sole.begin_turn();
+    Ok(())
 }
 
 // The mother makes her good move, and her daughter is born.

@@ -30,6 +30,7 @@ loop-i-init g c =
     record {
       turn = b.turn;
       world = taken c.args.settings.now c.args.sole.now.world c.requires.sound c.requires.more c.requires.settings c.disturb.new.sole.world c.begin_turn-creature.new.self.world c.begin_turn-creature.result none b.world b.record;
+      draws = c.new-draws.ensures ∙ ap (λ n. draws_of c.args.settings.now (n + 1)) c.quanta.ensures;
     }
 
 pub instruction-requires-clause-within : goal.instruction-requires-clause-within
@@ -55,7 +56,7 @@ instruction-requires-clause-settings g c =
 pub instruction-requires-clause-draws : goal.instruction-requires-clause-draws
 instruction-requires-clause-draws g c =
     let few : c.slice_of-slice.result ≤ 10000 = subst (λ n. n ≤ 10000) (sym c.slice_of-slice.ensures) (slice_few c.front.result.now.own.size c.args.settings.now) in
-    c.new-draws.ensures ∙ ap (λ n. draws_of c.args.settings.now (n + 1)) c.quanta.ensures
+    c.turn_to.ensures ∙ c.loop-i.invariant.draws
     ∙ ap (draws_of c.args.settings.now) (sym (quantum_then c.args.settings.now c.args.sole.now.world c.requires.sound c.requires.more c.requires.settings c.loop-i.i c.loop-i.creature c.loop-i.sole.world (omega arith) c.loop-i.invariant.turn.shares c.loop-i.invariant.world))
 
 pub instruction-requires-clause-next : goal.instruction-requires-clause-next
@@ -70,6 +71,7 @@ loop-i-preserved g c =
     record {
       turn = c.in_ok-instruction.ensures.turn;
       world = c.in_ok-instruction.ensures.world ∙ then_next c.args.settings.now c.args.sole.now.world c.requires.sound c.requires.more c.requires.settings c.loop-i.i c.loop-i.creature c.loop-i.sole.world (omega arith) c.loop-i.invariant.turn.shares c.loop-i.invariant.world;
+      draws = c.turn_to.ensures ∙ c.loop-i.invariant.draws;
     }
 
 pub put-requires-clause-within : goal.put-requires-clause-within
