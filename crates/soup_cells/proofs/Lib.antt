@@ -1,4 +1,5 @@
 mod Paged
 mod Indexed
 mod Flags
-mod Zeros
+mod Cutting
+mod Rows

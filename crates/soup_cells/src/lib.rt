@@ -2,6 +2,8 @@
 #![tactic(auto)]
 
 mod page;
+mod pages;
+mod row;
 mod soup;
 mod version;
 

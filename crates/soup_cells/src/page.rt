@@ -41,29 +41,42 @@ impl Page {
         }
     }
 
-    /// Makes the page shared, and gives one more owner of it. No cell is copied.
-    pub(crate) fn share(&mut self) -> Result<Arc<Vec<u8>>, OutOfMemory>
-        ensures cells { page_cells self.new ≡ page_cells self.old }
-        ensures ok { IfOk result (λ a. shared_cells a ≡ page_cells self.old) }
+    /// The cells of the page.
+    pub(crate) fn cells(&self) -> &[u8]
+        ensures { result.now ≡ page_cells self.now }
     {
         match self {
-            Page::Shared(cells) => Arc::try_clone(cells),
-            Page::Own(cells) => {
-                let alloc = *cells.allocator();
-                let cells = mem::replace(cells, Vec::new(alloc));
-                match Arc::new(alloc, cells) {
-                    Ok(cells) => {
-                        let other = Arc::try_clone(&cells);
-                        *self = Page::Shared(cells);
-                        other
-                    }
-                    Err(refused) => {
-                        *self = Page::Own(refused.value);
-                        Err(AllocError)
-                    }
+            Page::Own(cells) => cells.as_slice(),
+            Page::Shared(cells) => cells.as_slice(),
+        }
+    }
+
+    /// The same page once more. Where it is shared, no cell is copied.
+    pub(crate) fn copy(&self) -> Result<Page, OutOfMemory>
+        ensures { IfOk result (λ p. page_cells p ≡ page_cells self.now) }
+    {
+        match self {
+            Page::Own(cells) => Ok(Page::Own(cells.clone()?)),
+            Page::Shared(cells) => Ok(Page::Shared(Arc::try_clone(cells)?)),
+        }
+    }
+
+    /// Makes the page shared. No cell is copied.
+    pub(crate) fn share(&mut self) -> Result<(), OutOfMemory>
+        ensures { page_cells self.new ≡ page_cells self.old }
+    {
+        if let Page::Own(cells) = self {
+            let alloc = *cells.allocator();
+            let cells = mem::replace(cells, Vec::new(alloc));
+            match Arc::new(alloc, cells) {
+                Ok(cells) => *self = Page::Shared(cells),
+                Err(refused) => {
+                    *self = Page::Own(refused.value);
+                    return Err(AllocError);
                 }
             }
         }
+        Ok(())
     }
 
     /// Makes the page the soup's own. The cells are copied only where a version has the page still.

@@ -1,33 +1,41 @@
 //! The soup.
 
-ghost use Rattle.std.specs.Prelude.{◌≡◌, ◌<◌, ℕ, IfOk, OnOk, length, map, replicate, slice_index, slice_index_or, slice_set, true, vec_len};
+ghost use Rattle.std.specs.Prelude.{◌≡◌, ◌<◌, ℕ, IfErr, IfOk, OnOk, length, replicate, slice_index, slice_set, false, true};
+ghost use Rattle.std.specs.Arc.{arc_value};
 ghost use Rattle.soup_cells.specs.Cells.{is_ready};
-ghost use Rattle.soup_cells.specs.Pages.{page_cells, shared_cells};
+ghost use Rattle.soup_cells.specs.Forms.{form_cells, has_own, is_row};
 
-use crate::page::{PAGE, Page};
+use crate::pages::Pages;
+use crate::row::Row;
 use crate::version::Version;
-use std::alloc::Global;
+use std::alloc::{AllocError, Global};
 use std::marker::Model;
+use std::mem;
 use std::sync::Arc;
 use tierra_model::OutOfMemory;
 
 /// The cells of a soup. A cell is made ready before it is set; a version that is taken leaves no cell ready.
 #[derive(Drop)]
 pub struct Soup {
-    size: u32,
-    pages: Vec<Page>,
+    form: Form,
+}
+
+/// Cells in one row are found at once. The first version cuts the row into pages, which it shares with the soup, and the
+/// soup takes them back to set a cell.
+#[derive(Drop)]
+pub(crate) enum Form {
+    Row(Row),
+    Own(Pages),
+    Shared(Arc<Pages>),
 }
 
 impl Model for Soup {
-    ghost use Rattle.std.specs.Prelude.{map};
     ghost use Rattle.soup_cells.specs.Cells.{Cells};
-    ghost use Rattle.soup_cells.specs.Pages.{AreCells, cells_of, is_own, page_cells};
+    ghost use Rattle.soup_cells.specs.Forms.{form_cells};
 
     ghost Value = { Cells };
 
-    ghost view = { λ s. record { cells = cells_of s.pages.items; own = map is_own s.pages.items } };
-
-    ghost invariant = { λ s. AreCells s.size (map page_cells s.pages.items) };
+    ghost view = { λ s. form_cells s.form };
 }
 
 impl Soup {
@@ -35,23 +43,23 @@ impl Soup {
     pub fn new(alloc: Global, size: u32) -> Result<Soup, OutOfMemory>
         ensures { IfOk result (λ s. s.cells ≡ replicate size 0) }
     {
-        let count = (size as usize).div_ceil(PAGE);
-        let mut pages = Vec::with_capacity(alloc, count)?;
-        for number in 0..count {
-            let len = PAGE.min(size as usize - PAGE * number);
-            pages.push(Page::Own(vec![in alloc; 0; len]?))?;
-        }
-        Ok(Soup { size, pages })
+        Ok(Soup {
+            form: Form::Row(Row::new(alloc, size)?),
+        })
     }
 
     /// The instruction's code in a cell.
+    #[inline]
     pub fn get(&self, at: u32) -> u8
         requires { at < length self.now.cells }
         ensures value { result ≡ slice_index self.now.cells at }
         ensures code { result < 32 }
     {
-        let at = at as usize;
-        self.pages[at / PAGE].get(at % PAGE)
+        match &self.form {
+            Form::Row(row) => row.get(at),
+            Form::Own(pages) => pages.get(at),
+            Form::Shared(pages) => pages.get(at),
+        }
     }
 
     /// Makes a cell ready, so that it can be set without memory.
@@ -61,10 +69,17 @@ impl Soup {
         ensures ok { OnOk result (is_ready self.new at ≡ true) }
         ensures kept { (p : ℕ) → is_ready self.old p ≡ true → is_ready self.new p ≡ true }
     {
-        self.pages[at as usize / PAGE].make_own()
+        make_own(&mut self.form)?;
+        match &mut self.form {
+            Form::Row(_) => Ok(()),
+            Form::Own(pages) => pages.ready(at),
+            Form::Shared(_) => unreachable!(),
+        }
     }
 
+    #[tactic(auto, unfolding(crate::specs::Cells::is_ready))]
     /// Sets a cell that is ready.
+    #[inline]
     pub fn set(&mut self, at: u32, value: u8)
         requires within { at < length self.old.cells }
         requires ready { is_ready self.old at ≡ true }
@@ -72,39 +87,97 @@ impl Soup {
         ensures cells { self.new.cells ≡ slice_set self.old.cells at value }
         ensures ready { (p : ℕ) → is_ready self.new p ≡ is_ready self.old p }
     {
-        let at = at as usize;
-        self.pages[at / PAGE].set(at % PAGE, value);
+        match &mut self.form {
+            Form::Row(row) => row.set(at, value),
+            Form::Own(pages) => pages.set(at, value),
+            Form::Shared(_) => unreachable!(),
+        }
     }
 
-    /// The cells as they are now, for good. No cell is copied, and afterwards none need be ready.
+    /// The cells as they are now, for good. Afterwards none need be ready. The first version copies the cells, and no
+    /// other copies any.
     pub fn version(&mut self) -> Result<Version, OutOfMemory>
         ensures cells { self.new.cells ≡ self.old.cells }
         ensures ok { IfOk result (λ v. v ≡ self.old.cells) }
     {
-        let pages = share_all(&mut self.pages)?;
-        Ok(Version::of(self.size, pages))
+        let pages = share(&mut self.form)?;
+        Ok(Version::of(pages))
     }
 }
 
-// Makes all pages shared, and gives one more owner of each.
-fn share_all(pages: &mut Vec<Page>) -> Result<Vec<Arc<Vec<u8>>>, OutOfMemory>
-    ensures cells { map page_cells pages.new.items ≡ map page_cells pages.old.items }
-    ensures ok { IfOk result (λ v. map shared_cells v.items ≡ map page_cells pages.old.items) }
+// Makes the cells shared pages, and gives one more owner of them.
+fn share(form: &mut Form) -> Result<Arc<Pages>, OutOfMemory>
+    ensures cells { (form_cells form.new).cells ≡ (form_cells form.old).cells }
+    ensures ok { IfOk result (λ a. (arc_value a).cells ≡ (form_cells form.old).cells) }
 {
-    let mut shared = Vec::with_capacity(*pages.allocator(), pages.len())?;
-    for i in 0..pages.len() {
-        shared.push(share_at(pages, i)?)?;
+    if let Form::Row(row) = form {
+        *form = Form::Own(row.cut()?);
     }
-    Ok(shared)
+    share_pages(form)
 }
 
-fn share_at(pages: &mut Vec<Page>, i: usize) -> Result<Arc<Vec<u8>>, OutOfMemory>
-    requires { i < vec_len pages.old }
-    ensures cells { map page_cells pages.new.items ≡ map page_cells pages.old.items }
-    ensures len { vec_len pages.new ≡ vec_len pages.old }
-    ensures ok { IfOk result (λ a. shared_cells a ≡ slice_index_or (map page_cells pages.old.items) i (shared_cells a)) }
+// The same of cells in pages. No cell is copied.
+fn share_pages(form: &mut Form) -> Result<Arc<Pages>, OutOfMemory>
+    requires { is_row form.old ≡ false }
+    ensures cells { (form_cells form.new).cells ≡ (form_cells form.old).cells }
+    ensures ok { IfOk result (λ a. (arc_value a).cells ≡ (form_cells form.old).cells) }
 {
-    pages[i].share()
+    match form {
+        Form::Row(_) => unreachable!(),
+        Form::Shared(pages) => Arc::try_clone(pages),
+        Form::Own(pages) => {
+            pages.share()?;
+            let alloc = pages.allocator();
+            let pages = mem::replace(pages, Pages::none(alloc));
+            match Arc::new(alloc, pages) {
+                Ok(pages) => {
+                    let other = Arc::try_clone(&pages);
+                    *form = Form::Shared(pages);
+                    other
+                }
+                Err(refused) => {
+                    *form = Form::Own(refused.value);
+                    Err(AllocError)
+                }
+            }
+        }
+    }
+}
+
+#[tactic(auto, unfolding(crate::specs::Cells::is_ready))]
+// Makes the cells the soup's own. The list of pages is copied only where a version has it still, and no cell is copied.
+fn make_own(form: &mut Form) -> Result<(), OutOfMemory>
+    ensures cells { (form_cells form.new).cells ≡ (form_cells form.old).cells }
+    ensures ok { OnOk result (has_own form.new ≡ true) }
+    ensures kept { (p : ℕ) → is_ready (form_cells form.old) p ≡ true → is_ready (form_cells form.new) p ≡ true }
+{
+    if let Form::Shared(pages) = form {
+        let none = Form::Own(Pages::none(pages.allocator()));
+        if let Form::Shared(pages) = mem::replace(form, none) {
+            match taken_back(pages) {
+                Ok(pages) => *form = Form::Own(pages),
+                Err(pages) => {
+                    *form = Form::Shared(pages);
+                    return Err(AllocError);
+                }
+            }
+        }
+    }
+    Ok(())
+}
+
+// Pages that were shared. Without memory they are given back.
+fn taken_back(pages: Arc<Pages>) -> Result<Pages, Arc<Pages>>
+    ensures ok { IfOk result (λ p. p.cells ≡ (arc_value pages).cells) }
+    ensures err { IfErr result (λ a. (arc_value a).cells ≡ (arc_value pages).cells) }
+{
+    match Arc::try_unwrap(pages) {
+        Ok(pages) => Ok(pages),
+        Err(pages) => match pages.copy() {
+            Ok(pages) => Ok(pages),
+            Err(_) => Err(pages),
+        },
+    }
 }
 
 #[cfg(test)]

@@ -1,36 +1,32 @@
 //! Versions of a soup.
 
-ghost use Rattle.std.specs.Prelude.{◌≡◌, ◌+◌, ◌*◌, ◌<◌, length, map, min, slice_index, slice_range};
-ghost use Rattle.soup_cells.specs.Pages.{AreCells, cells_of_shared, shared_cells};
+ghost use Rattle.std.specs.Prelude.{◌≡◌, ◌+◌, ◌*◌, ◌<◌, length, min, slice_index, slice_range};
+ghost use Rattle.std.specs.Arc.{arc_value};
 
-use crate::page::PAGE;
+use crate::pages::Pages;
 use std::marker::Model;
 use std::sync::Arc;
 
 /// The cells of a soup at one time. They never change.
 #[derive(Drop)]
 pub struct Version {
-    size: u32,
-    pages: Vec<Arc<Vec<u8>>>,
+    pages: Arc<Pages>,
 }
 
 impl Model for Version {
-    ghost use Rattle.std.specs.Prelude.{List, ℕ, map};
-    ghost use Rattle.soup_cells.specs.Pages.{AreCells, cells_of_shared, shared_cells};
+    ghost use Rattle.std.specs.Prelude.{List, ℕ};
+    ghost use Rattle.std.specs.Arc.{arc_value};
 
     ghost Value = { List ℕ };
 
-    ghost view = { λ v. cells_of_shared v.pages.items };
-
-    ghost invariant = { λ v. AreCells v.size (map shared_cells v.pages.items) };
+    ghost view = { λ v. (arc_value v.pages).cells };
 }
 
 impl Version {
-    pub(crate) fn of(size: u32, pages: Vec<Arc<Vec<u8>>>) -> Version
-        requires { AreCells size (map shared_cells pages.items) }
-        ensures { result ≡ cells_of_shared pages.items }
+    pub(crate) fn of(pages: Arc<Pages>) -> Version
+        ensures { result ≡ (arc_value pages).cells }
     {
-        Version { size, pages }
+        Version { pages }
     }
 
     /// The instruction's code in a cell.
@@ -39,15 +35,14 @@ impl Version {
         ensures value { result ≡ slice_index self.now at }
         ensures code { result < 32 }
     {
-        let at = at as usize;
-        self.pages[at / PAGE][at % PAGE]
+        self.pages.get(at)
     }
 
     /// How many cells there are.
     pub fn size(&self) -> u32
         ensures { result ≡ length self.now }
     {
-        self.size
+        self.pages.size()
     }
 
     /// The cells of a page of 4096, of which the last may have fewer.
@@ -55,6 +50,6 @@ impl Version {
         requires { 4096 * number < length self.now }
         ensures { result.now ≡ slice_range self.now (4096 * number) (min (4096 * number + 4096) (length self.now)) }
     {
-        self.pages[number as usize].as_slice()
+        self.pages.page(number)
     }
 }

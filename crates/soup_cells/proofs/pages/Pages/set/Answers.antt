@@ -6,8 +6,8 @@ use Rattle.soup_cells.specs.Cells.{Cells, is_ready}
 use Rattle.soup_cells.specs.declared.page.Page.{Page}
 use Rattle.soup_cells.specs.Pages.{cells_of, is_own, page_cells}
 use Rattle.soup_cells.proofs.Indexed.{HasCell, cell-set, has-cell, paged-set}
-use Rattle.soup_cells.proofs.soup.Soup.set.Goals as goal
-use Rattle.soup_cells.proofs.soup.Soup.set.Goals.{After-self, After-set}
+use Rattle.soup_cells.proofs.pages.Pages.set.Goals as goal
+use Rattle.soup_cells.proofs.pages.Pages.set.Goals.{After-self, After-set}
 
 within : (c : After-self) → c.args.at < length (cells_of c.self.inside.pages.items)
 within c = subst (λ (s : Cells). c.args.at < length s.cells) (sym c.self.view_is) c.requires.within

@@ -2,8 +2,8 @@ use Rattle.std.proofs.Common.{◌∙◌, ◌<◌, ◌/◌, ap, get_or, length, r
 use Rattle.soup_cells.specs.Cells.{Cells}
 use Rattle.soup_cells.specs.Pages.{page_cells}
 use Rattle.soup_cells.proofs.Indexed.{HasCell, has-cell}
-use Rattle.soup_cells.proofs.soup.Soup.get.Goals as goal
-use Rattle.soup_cells.proofs.soup.Soup.get.Goals.{After-self}
+use Rattle.soup_cells.proofs.pages.Pages.get.Goals as goal
+use Rattle.soup_cells.proofs.pages.Pages.get.Goals.{After-self}
 
 there : (c : After-self) → HasCell page_cells c.self.inside.pages.items c.args.at
 there c =
