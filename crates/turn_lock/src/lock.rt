@@ -1,6 +1,6 @@
 //! The lock.
 
-ghost use Rattle.std.specs.Prelude.{◌≡◌, ℕ, ◌+◌, ◌-◌, ◌^◌, ◌<◌, ◌≤◌, ◌≢◌, List, [], ◌∷◌, length, max, Some, None, IsSome, IsSomeAnd, IfOk, IfErr, OnOk, OnErr};
+ghost use Rattle.std.specs.Prelude.{◌≡◌, ℕ, ◌+◌, ◌-◌, ◌^◌, ◌<◌, ◌≤◌, ◌≢◌, List, [], ◌∷◌, length, max, Some, None, IsSome, IsSomeAnd, IfNone, IfOk, IfErr, IfSome, OnOk, OnErr};
 ghost use Rattle.std.specs.Option.{option_or};
 ghost use Rattle.turn_lock.specs.declared.view.Stage.TheVariants.{Waiting, Called};
 ghost use Rattle.turn_lock.specs.Summaries.{summary_of, entries_by, Commits};
@@ -15,10 +15,15 @@ use crate::steps::{
 use crate::view::{LockRule, View};
 use atomic_table::{Badge, Refused, Table};
 use std::alloc::{AllocFailed, Global};
+use std::hint::spin_loop;
 use std::marker::Model;
 use std::snapshot::Snapshot;
 use std::sync::Wait;
+use std::sync::atomic::{AtomicU64, Ordering};
 use tierra_model::OutOfMemory;
+
+/// So often a waiter looks whether it is served before it parks.
+const LOOKS: u32 = 200;
 
 // A seat, as the table knows it.
 type TableSeat<T> = atomic_table::Seat<Option<T>, View>;
@@ -33,6 +38,9 @@ pub struct NoRoom<T> {
 #[derive(Drop)]
 pub struct TurnLock<T: Kept> {
     table: Table<Option<T>, View, Snapshot<T>, LockRule, Global>,
+    // How many park or are about to. Who passes the turn on wakes them, and spares the call where there are none.
+    parked: AtomicU64,
+    alloc: Global,
 }
 
 impl<T: Kept> Model for TurnLock<T> {
@@ -59,6 +67,9 @@ impl<T: Kept> TurnLock<T> {
     {
         let opening = Snapshot::of(&value);
         let seen = value.committed();
+        let Ok(own) = Box::new(alloc, only_for(1)) else {
+            return Err(NoRoom { value });
+        };
         let slots = one_slot(alloc, value)?;
         match Table::new(alloc, &[0; 66], slots, &opening) {
             Ok((table, table_seat)) => {
@@ -67,9 +78,17 @@ impl<T: Kept> TurnLock<T> {
                     caller: 1,
                     turns: 0,
                     seen,
-                    own: only_for(1),
+                    own,
                 };
-                Ok((TurnLock { table }, seat))
+                let parked = AtomicU64::new(0);
+                Ok((
+                    TurnLock {
+                        table,
+                        parked,
+                        alloc,
+                    },
+                    seat,
+                ))
             }
             Err(Refused { slots }) => Err(NoRoom {
                 value: value_in(slots),
@@ -77,7 +96,7 @@ impl<T: Kept> TurnLock<T> {
         }
     }
 
-    /// A new seat for `caller`, for which it speaks alone. No memory is taken, so today it is never refused.
+    /// A new seat for `caller`, for which it speaks alone.
     pub fn split(&self, seat: &mut Seat, caller: u32) -> Result<Seat, OutOfMemory>
         requires lock { seat.old.lock ≡ self.now }
         requires first { IsSome (own_of seat.old 1) }
@@ -87,6 +106,7 @@ impl<T: Kept> TurnLock<T> {
         ensures old { OnOk result (seat.new ≡ record seat.old { last_caller = Some caller }) }
         ensures refused { OnErr result (seat.new ≡ seat.old) }
     {
+        let own = Box::new(self.alloc, only_for(caller))?;
         let badge = std::mem::replace(&mut seat.badge, Badge::blank());
         let mut table_seat: TableSeat<T> = badge.into_seat();
         let new = self.table.shared.split_seat::<SplitSeat>(&mut table_seat);
@@ -96,7 +116,7 @@ impl<T: Kept> TurnLock<T> {
             caller,
             turns: 0,
             seen: seat.seen,
-            own: only_for(caller),
+            own,
         })
     }
 
@@ -173,7 +193,9 @@ impl<T: Kept> TurnLock<T> {
             .shared
             .fetch_add::<Publish>(&mut table_seat, at + 2, growth);
         self.table.shared.fetch_add::<PassOn>(&mut table_seat, 1, 1);
-        self.table.shared.wake_all(1);
+        if self.parked.load(Ordering::SeqCst) > 0 {
+            self.table.shared.wake_all(1);
+        }
         Seat {
             badge: table_seat.into_badge(),
             caller,
@@ -244,7 +266,11 @@ impl<T: Kept> TurnLock<T> {
             own: _,
         } = seat;
         let table_seat: TableSeat<T> = badge.into_seat();
-        let TurnLock { table } = self;
+        let TurnLock {
+            table,
+            parked: _,
+            alloc: _,
+        } = self;
         let mut closed = table.close_with(table_seat);
         let slot = closed.take(0);
         closed.free();
@@ -259,16 +285,49 @@ impl<T: Kept> TurnLock<T> {
         ensures same { (table_seat.new.table_id ≡ table_seat.old.table_id) × (table_seat.new.id ≡ table_seat.old.id) }
         ensures called { table_seat.new.me ≡ (at_stage table_seat.old.me.0 (Called ticket []), table_seat.old.me.1) }
     {
-        for _ in rt.forever() {
-            let serving = self.table.shared.load::<LoadServing>(table_seat, 1);
-            if serving == ticket {
+        for _ in 0..LOOKS {
+            let Some(_) = self.served_before(table_seat, ticket) else {
                 return;
-            }
+            };
+            spin_loop();
+        }
+        self.parked.fetch_add(1, Ordering::SeqCst);
+        self.wait_parked(rt, table_seat, ticket);
+        self.parked.fetch_sub(1, Ordering::SeqCst);
+    }
+
+    // Parks until the ticket is served.
+    fn wait_parked<R: Wait>(&self, rt: &R, table_seat: &mut TableSeat<T>, ticket: u64)
+        requires lock { table_seat.old.table_id ≡ self.now.id }
+        requires waits { table_seat.old.me.0.stage ≡ Waiting ticket }
+        ensures same { (table_seat.new.table_id ≡ table_seat.old.table_id) × (table_seat.new.id ≡ table_seat.old.id) }
+        ensures called { table_seat.new.me ≡ (at_stage table_seat.old.me.0 (Called ticket []), table_seat.old.me.1) }
+    {
+        for _ in rt.forever() {
+            let Some(serving) = self.served_before(table_seat, ticket) else {
+                return;
+            };
             self.table
                 .shared
                 .park(rt, 1, (serving & 0xffff_ffff) as u32);
         }
         unreachable!()
+    }
+
+    // The ticket that is served, where it is not yet the seat's.
+    fn served_before(&self, table_seat: &mut TableSeat<T>, ticket: u64) -> Option<u64>
+        requires lock { table_seat.old.table_id ≡ self.now.id }
+        requires waits { table_seat.old.me.0.stage ≡ Waiting ticket }
+        ensures same { (table_seat.new.table_id ≡ table_seat.old.table_id) × (table_seat.new.id ≡ table_seat.old.id) }
+        ensures called { IfNone result (table_seat.new.me ≡ (at_stage table_seat.old.me.0 (Called ticket []), table_seat.old.me.1)) }
+        ensures waits { IfSome result (λ _. table_seat.new.me ≡ table_seat.old.me) }
+    {
+        let serving = self.table.shared.load::<LoadServing>(table_seat, 1);
+        if serving == ticket {
+            None
+        } else {
+            Some(serving)
+        }
     }
 
     // Reads all counts.

@@ -16,7 +16,7 @@ pub struct Seat {
     pub(crate) caller: u32,
     pub(crate) turns: u64,
     pub(crate) seen: u64,
-    pub(crate) own: [Option<u64>; 64],
+    pub(crate) own: Box<[Option<u64>; 64]>,
 }
 
 impl Model for Seat {
@@ -27,7 +27,7 @@ impl Model for Seat {
 
     ghost view = { λ s. seat_of s.badge.table_id (view_of s.badge.views) };
 
-    ghost invariant = { λ s. MirrorsSeat s.badge.views s.caller s.turns s.seen s.own };
+    ghost invariant = { λ s. MirrorsSeat s.badge.views s.caller s.turns s.seen s.own.value };
 }
 
 impl Seat {
@@ -72,7 +72,7 @@ pub struct Turn<T: Kept> {
     pub(crate) table_seat: atomic_table::Seat<Option<T>, View>,
     pub(crate) caller: u32,
     pub(crate) turns: u64,
-    pub(crate) own: [Option<u64>; 64],
+    pub(crate) own: Box<[Option<u64>; 64]>,
     pub(crate) committed: u64,
     pub(crate) taken: Snapshot<T>,
 }
@@ -89,6 +89,6 @@ impl<T: Kept> Model for Turn<T> {
       taken = summary_of T.setup T.committed T.entries t.taken.value;
     } };
 
-    ghost invariant = { λ t. MirrorsTurn t.table_seat.me t.caller t.turns t.committed t.own
+    ghost invariant = { λ t. MirrorsTurn t.table_seat.me t.caller t.turns t.committed t.own.value
         (summary_of T.setup T.committed T.entries t.taken.value) };
 }

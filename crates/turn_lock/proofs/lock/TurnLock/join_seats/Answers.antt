@@ -26,7 +26,7 @@ invariant_of-result g c =
     let same = c.load.ensures.2.same (λ waits. subst (λ z. WaitsFor z c.load.result) stage waits) in
     let now = c.into_badge.ensures.2 ∙ (ap (λ z. z.0 ∷ []) (same ∙ c.join_seat.ensures.2) ∙ (λ k. after_join (sym into k) (sym from k) ∷ [])) in
     let mirrors = mirrors_joined c.into.inside.badge.views _ _ _ _ c.into.invariant c.from.inside.badge.views _ _ _ _ _ c.from.invariant now in
-    rw (c.max.ensures, c.merge.ensures) mirrors
+    rw (c.max.ensures, c.merge.ensures, c.deref_mut.ensures.value, c.deref.ensures) mirrors
 
 pub returns-clause-own : goal.returns-clause-own
 returns-clause-own g c =

@@ -31,7 +31,7 @@ invariant_of-result g c =
     let next = value_where c.args.seat.now.last_caller (λ last. c.args.caller ≡ last + 1) c.requires.next in
     let last = ap (λ s. unwrap_or s.last_caller 0) c.seat.view_is ∙ ap (λ o. unwrap_or o 0) next.1 in
     let caller = next.2 in
-    rw c.only_for.ensures (mirrors_new c.seat.inside.badge.views _ _ _ _ c.seat.invariant _ _ (omega arith) c.requires.most (c.into_badge-2.ensures.2 ∙ (ap (λ z. z.0 ∷ []) c.split_seat-new.ensures.4 ∙ ap (λ v. new_view v ∷ []) (sym now))))
+    rw (c.in_ok-own.ensures.ok, c.only_for.ensures) (mirrors_new c.seat.inside.badge.views _ _ _ _ c.seat.invariant _ _ (omega arith) c.requires.most (c.into_badge-2.ensures.2 ∙ (ap (λ z. z.0 ∷ []) c.split_seat-new.ensures.4 ∙ ap (λ v. new_view v ∷ []) (sym now))))
 
 pub invariant_of-seat : goal.invariant_of-seat
 invariant_of-seat g c =

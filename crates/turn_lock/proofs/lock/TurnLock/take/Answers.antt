@@ -35,7 +35,7 @@ invariant_of-turn g c =
     let turns = c.seat.invariant.turns_are in
     let few = ap (λ s. s.turns) c.seat.view_is in
     let room = c.requires.room in
-    mirrors_turn _ c.seat.inside.badge.views c.seat.inside.caller c.seat.inside.turns c.seat.inside.seen _ c.seat.inside.own _ read.0 _ _ _ _ _ c.seat.invariant (omega arith) read.1 now took.1
+    mirrors_turn _ c.seat.inside.badge.views c.seat.inside.caller c.seat.inside.turns c.seat.inside.seen _ c.seat.inside.own.value _ read.0 _ _ _ _ _ c.seat.invariant (omega arith) read.1 now took.1
     (same ∙ sym c.of.ensures) c.exchange-slot.ensures.3 (c.committed.ensures ∙ ap g.T.Kept.committed (sym c.of.ensures))
 
 pub returns : goal.returns
