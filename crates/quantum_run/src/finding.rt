@@ -2,8 +2,10 @@
 
 ghost use Rattle.std.specs.Prelude.{◌≡◌, IfOk};
 
+use crate::job::Job;
 use crate::scratch::Notes;
 use read_sets::Reads;
+use std::alloc::Global;
 use std::marker::Model;
 use tierra_model::{Creature, EventList, OutOfMemory, Settings};
 
@@ -11,12 +13,31 @@ use tierra_model::{Creature, EventList, OutOfMemory, Settings};
 /// order. It stands: who runs the quantum on what was read finds just this.
 #[derive(Drop)]
 pub struct Finding {
-    settings: Settings,
     quantum: u64,
-    before: Creature,
+    records: Box<Records>,
     reads: Reads,
     events: EventList,
+}
+
+/// What is large in a finding. It is boxed, since a finding goes through many hands.
+#[derive(Clone, Copy, Drop)]
+pub(crate) struct Records {
+    settings: Settings,
+    before: Creature,
     after: Creature,
+}
+
+impl Records {
+    /// Room for the records of a job.
+    pub(crate) fn room(alloc: Global, job: &Job) -> Result<Box<Records>, OutOfMemory> {
+        let records = Records {
+            settings: *job.settings(),
+            before: *job.front(),
+            after: *job.front(),
+        };
+        let room = Box::new(alloc, records)?;
+        Ok(room)
+    }
 }
 
 impl Model for Finding {
@@ -25,9 +46,9 @@ impl Model for Finding {
 
     ghost Value = { findings.Finding };
 
-    ghost view = { λ f. record { settings = f.settings; quantum = f.quantum; before = f.before; reads = f.reads.reads; events = f.events; after = f.after } };
+    ghost view = { λ f. record { settings = f.records.value.settings; quantum = f.quantum; before = f.records.value.before; reads = f.reads.reads; events = f.events; after = f.records.value.after } };
 
-    ghost invariant = { λ f. Kept (record { settings = f.settings; quantum = f.quantum; before = f.before; reads = f.reads.reads; events = f.events; after = f.after }) };
+    ghost invariant = { λ f. Kept (record { settings = f.records.value.settings; quantum = f.quantum; before = f.records.value.before; reads = f.reads.reads; events = f.events; after = f.records.value.after }) };
 }
 
 ghost use Rattle.quantum_run.specs.Found.{Kept};
@@ -40,17 +61,22 @@ impl Finding {
         reads: Reads,
         events: EventList,
         after: Creature,
+        room: Box<Records>,
     ) -> Finding
         requires { Kept (record { settings = settings; quantum = quantum; before = before; reads = reads.reads; events = events; after = after }) }
         ensures { result ≡ record { settings = settings; quantum = quantum; before = before; reads = reads.reads; events = events; after = after } }
     {
-        Finding {
+        let mut records = room;
+        *records = Records {
             settings,
-            quantum,
             before,
+            after,
+        };
+        Finding {
+            quantum,
+            records,
             reads,
             events,
-            after,
         }
     }
 
@@ -66,7 +92,7 @@ impl Finding {
     pub fn settings(&self) -> &Settings
         ensures { result.now ≡ self.now.settings }
     {
-        &self.settings
+        &self.records.settings
     }
 
     /// The number of the quantum.
@@ -81,7 +107,7 @@ impl Finding {
     pub fn before(&self) -> &Creature
         ensures { result.now ≡ self.now.before }
     {
-        &self.before
+        &self.records.before
     }
 
     /// What the quantum read.
@@ -103,7 +129,7 @@ impl Finding {
     pub fn after(&self) -> &Creature
         ensures { result.now ≡ self.now.after }
     {
-        &self.after
+        &self.records.after
     }
 
     /// Another finding of the same.
@@ -113,13 +139,12 @@ impl Finding {
         let events = EventList {
             items: self.events.items.clone()?,
         };
+        let records = Box::new(*self.events.items.allocator(), *self.records)?;
         Ok(Finding {
-            settings: self.settings,
             quantum: self.quantum,
-            before: self.before,
+            records,
             reads: self.reads.copy()?,
             events,
-            after: self.after,
         })
     }
 }

@@ -4,7 +4,7 @@ ghost use Rattle.std.specs.Prelude.{◌≡◌, ◌<◌, ◌^◌, vec_capacity, v
 ghost use Rattle.quantum_run.specs.OnScene.{events_after, yard_after};
 
 use crate::cells::{Cells, Mark};
-use crate::finding::Finding;
+use crate::finding::{Finding, Records};
 use crate::free_cells::FreeCells;
 use crate::job::Job;
 use crate::scratch::{Copies, Notes};
@@ -119,6 +119,7 @@ impl<'a> OnScene<'a> {
         self,
         free: Arc<FreeList>,
         yard: Arc<Yard>,
+        room: Box<Records>,
     ) -> (Finding, Vec<Mark>, u32, Copies)
         requires free { arc_value free ≡ self.run.start.free }
         requires yard { arc_value yard ≡ self.run.start.yard }
@@ -141,6 +142,7 @@ impl<'a> OnScene<'a> {
             reads,
             events,
             self.front,
+            room,
         );
         let copies = Copies {
             free: self.free.into_own(),

@@ -8,7 +8,7 @@ ghost use Rattle.tierra_model.specs.Quantum as quantum;
 ghost use Rattle.quantum_run.specs.Found.{IsFound};
 
 use crate::cells::{Mark, UNMARKED};
-use crate::finding::Finding;
+use crate::finding::{Finding, Records};
 use crate::job::Job;
 use crate::on_scene::OnScene;
 use crate::scratch::{Copies, Notes};
@@ -58,13 +58,14 @@ impl Workspace {
         let slice = slice_of(job.front().own.size, settings);
         let free = job.share_free()?;
         let yard = job.share_yard()?;
+        let room = Records::room(alloc, job)?;
         let (marks, turn) = self.take_marks(settings.soup_size)?;
         let copies = mem::replace(&mut self.copies, Copies::new(alloc));
         let notes = mem::replace(&mut self.notes, Notes::new(alloc));
         let mut scene = OnScene::new(job, slice, marks, turn, copies, notes)?;
         match run_slice(&mut scene, settings, job.quantum(), slice, steps) {
             Ok(()) => {
-                let (finding, marks, turn, copies) = scene.into_finding(free, yard);
+                let (finding, marks, turn, copies) = scene.into_finding(free, yard, room);
                 *self = Workspace {
                     marks,
                     turn,
