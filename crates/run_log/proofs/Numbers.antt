@@ -118,3 +118,22 @@ range-past a (suc n) id past =
   where
     differs : (a id : ℕ) → a < id → one_if (a == id) ≡ 0
     differs a id below = grind (arith, nat_tests)
+
+-- where nobody is dropped, all are kept
+pub none-left : (p : ℕ → Bool) (xs : List ℕ) → length (filter (λ x. not (p x)) xs) ≡ 0 → filter (λ x. not (p x)) xs ≡ []
+none-left p xs e = length-zero (filter (λ x. not (p x)) xs) e
+  where
+    length-zero : (ys : List ℕ) → length ys ≡ 0 → ys ≡ []
+    length-zero [] e = refl
+    length-zero (y ∷ ys) e = absurd (omega (arith, e))
+
+pub all-kept : (p : ℕ → Bool) (xs : List ℕ) → length (filter (λ x. not (p x)) xs) ≡ 0 → filter p xs ≡ xs
+all-kept p [] e = refl
+all-kept p (x ∷ xs) e = one (p x) refl (all-kept p xs)
+  where
+    dropped : Bool → List ℕ
+    dropped b = cond (not b) (x ∷ filter (λ y. not (p y)) xs) (filter (λ y. not (p y)) xs)
+
+    one : (b : Bool) → p x ≡ b → (length (filter (λ y. not (p y)) xs) ≡ 0 → filter p xs ≡ xs) → cond b (x ∷ filter p xs) (filter p xs) ≡ x ∷ xs
+    one true is rest = ap (λ (ys : List ℕ). x ∷ ys) (rest (ap (λ (b : Bool). length (dropped b)) (sym is) ∙ e))
+    one false is rest = absurd (let h : length (dropped false) ≡ 0 = ap (λ (b : Bool). length (dropped b)) (sym is) ∙ e in omega (arith, h))

@@ -41,10 +41,12 @@ fn log_of_run(alloc: Global, setup: &Setup, quanta: u64) -> Result<Log, OutOfMem
     let mut living = numbers(alloc, inoculated)?;
     for before in 0..quanta {
         let first = inoculated + world.births() + 1;
+        let dead = world.deaths();
         world = run_on(alloc, world, 1)?;
         let next = inoculated + world.births() + 1;
         note_births(&mut log, &mut living, before + 1, first, next)?;
-        living = note_deaths(alloc, &mut log, &living, &world, before + 1)?;
+        let died = world.deaths() - dead;
+        living = note_deaths(alloc, &mut log, living, &world, before + 1, died)?;
     }
     Ok(log)
 }
@@ -94,8 +96,31 @@ fn note_births(
     Ok(())
 }
 
-// Notes the deaths of the quantum, among those who lived; the answer is who lives in the world.
+// Notes the deaths of the quantum, of which there were so many, among those who lived; the answer is who lives in the world.
 fn note_deaths(
+    alloc: Global,
+    log: &mut Log,
+    living: Vec<u64>,
+    world: &World,
+    quantum: u64,
+    died: u64,
+) -> Result<Vec<u64>, OutOfMemory>
+    requires order { All (λ r. quantum_of r ≤ quantum) log.old.records }
+    requires living { living.items ≡ living_in log.old.inoculated log.old.records }
+    requires once { (id : ℕ) → times_in living.items id ≤ 1 }
+    requires died { length (filter (λ id. not (lives world.now.world id)) living.items) ≡ died }
+    ensures inoculated { log.new.inoculated ≡ log.old.inoculated }
+    ensures living { IfOk result (λ left. left.items ≡ filter (lives world.now.world) living.items) }
+    ensures records { IfOk result (λ left. log.new.records ≡ log.old.records ++ map (λ id. record_of.Death quantum id) (filter (λ id. not (lives world.now.world id)) living.items)) }
+{
+    if died == 0 {
+        return Ok(living);
+    }
+    note_each_death(alloc, log, &living, world, quantum)
+}
+
+// Notes the deaths of the quantum, among those who lived; the answer is who lives in the world.
+fn note_each_death(
     alloc: Global,
     log: &mut Log,
     living: &[u64],

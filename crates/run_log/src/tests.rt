@@ -28,6 +28,39 @@ at = 50
 code = "nop_1 nop_1 nop_1 nop_1 nop_1 nop_1 nop_1 nop_1 nop_1 nop_1"
 "#;
 
+/// The first creature's request kills the three next in the queue, until 83 cells in a row are free.
+const THIRSTY: &str = r#"
+soup_size = 100
+mal_mult = 6
+fill_percent = 100
+[[creature]]
+at = 0
+code = "zero or1 shl shl shl shl shl shl mal nop_0 nop_0 nop_0"
+[[creature]]
+at = 30
+code = "dec_c"
+[[creature]]
+at = 50
+code = "dec_c"
+[[creature]]
+at = 70
+code = "dec_c"
+[[creature]]
+at = 95
+code = "dec_c"
+"#;
+
+/// The creature's second request kills the daughter that the same quantum brought.
+const HARSH: &str = r#"
+soup_size = 100
+mal_mult = 4
+fill_percent = 50
+move_percent = 1
+[[creature]]
+at = 0
+code = "zero or1 shl shl shl shl mal mov_iab divide shl mal"
+"#;
+
 /// Half of the living die in quantum 2, and not the one that runs.
 const DISTURBED: &str = r#"
 soup_size = 100
@@ -48,7 +81,7 @@ code = "dec_c"
 "#;
 
 /// A soup file, quanta, how far apart counts are told, and the curve.
-const CURVES: [(&str, u16, u16, &str); 4] = [
+const CURVES: [(&str, u16, u16, &str); 6] = [
     (
         ANCESTOR,
         101,
@@ -69,6 +102,27 @@ at 101 living 4 births 3 deaths 0
         "death 1 2
 at 0 living 2 births 0 deaths 0
 at 1 living 1 births 0 deaths 1
+",
+    ),
+    (
+        THIRSTY,
+        1,
+        1,
+        "death 1 2
+death 1 3
+death 1 4
+at 0 living 5 births 0 deaths 0
+at 1 living 2 births 0 deaths 3
+",
+    ),
+    (
+        HARSH,
+        1,
+        1,
+        "birth 1 2
+death 1 2
+at 0 living 1 births 0 deaths 0
+at 1 living 1 births 1 deaths 1
 ",
     ),
     (

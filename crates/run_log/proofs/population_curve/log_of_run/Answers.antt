@@ -11,11 +11,11 @@ use Rattle.tierra_model.proofs.Sound.{sound-each_once}
 use Rattle.serial_slicer.proofs.Serials.{after-one}
 use Rattle.run_log.specs.declared.record.Record.{Record}
 use Rattle.run_log.specs.declared.record.Record.TheVariants.{Birth, Death}
-use Rattle.run_log.specs.Curve.{born_in, lived_in, lives, records_in, run_records}
+use Rattle.run_log.specs.Curve.{born_in, dead_in, lived_in, lives, records_in, run_records}
 use Rattle.run_log.specs.Records.{living_in, point_of, up_to}
 use Rattle.run_log.proofs.Notes.{order-births}
 use Rattle.run_log.proofs.Numbers.{ordered-once}
-use Rattle.run_log.proofs.Survivors.{lived-ordered, survivors}
+use Rattle.run_log.proofs.Survivors.{deaths-counted, lived-ordered, survivors}
 use Rattle.run_log.proofs.Runs.{IsAt, IsTurn, is-at, is-turn, living-after, points-are, run-more, run-none, serial-none, start-count, start-ids, turn-born, turn-living, turn-order}
 use Rattle.run_log.proofs.population_curve.log_of_run.Goals as goal
 
@@ -195,8 +195,7 @@ note_deaths-requires-clause-living c =
     turn.tracks c.loop-before.invariant.inoculated c.loop-before.invariant.records c.loop-before.invariant.living in
     let noted : c.note_births.new.log.records ≡ c.loop-before.log.records ++ map (λ id. Birth (n + 1) id) ids = c.in_ok-note_births.ensures.records in
     let more : c.note_births.new.living.items ≡ c.loop-before.living.items ++ ids = c.in_ok-note_births.ensures.living in
-    c.deref.ensures.value
-    ∙ living-after c.loop-before.log.inoculated (n + 1) c.loop-before.log.records c.note_births.new.log.records c.loop-before.living.items c.note_births.new.living.items ids old noted more
+    living-after c.loop-before.log.inoculated (n + 1) c.loop-before.log.records c.note_births.new.log.records c.loop-before.living.items c.note_births.new.living.items ids old noted more
     ∙ ap (λ (i : ℕ). living_in i c.note_births.new.log.records) (sym c.in_ok-note_births.ensures.inoculated)
 
 pub note_deaths-requires-clause-once : goal.note_deaths-requires-clause-once
@@ -222,8 +221,8 @@ note_deaths-requires-clause-once c =
     turn.tracks c.loop-before.invariant.inoculated c.loop-before.invariant.records c.loop-before.invariant.living in
     let noted : c.note_births.new.log.records ≡ c.loop-before.log.records ++ map (λ id. Birth (n + 1) id) ids = c.in_ok-note_births.ensures.records in
     let more : c.note_births.new.living.items ≡ c.loop-before.living.items ++ ids = c.in_ok-note_births.ensures.living in
-    let seen : c.deref.result.now ≡ lived_in v w =
-    c.deref.ensures.value ∙ more ∙ ap (λ (l : List ℕ). l ++ ids) c.loop-before.invariant.living ∙ ap (λ (l : List ℕ). ids_of v.living ++ l) born in
+    let seen : c.note_births.new.living.items ≡ lived_in v w =
+    more ∙ ap (λ (l : List ℕ). l ++ ids) c.loop-before.invariant.living ∙ ap (λ (l : List ℕ). ids_of v.living ++ l) born in
     λ id. subst (λ (l : List ℕ). times_in l id ≤ 1) (sym seen)
     (ordered-once 1 (lived_in v w) id (lived-ordered v w turn.sound_before turn.sound_after turn.later))
 
@@ -250,8 +249,8 @@ loop-before-preserved c =
     turn.tracks c.loop-before.invariant.inoculated c.loop-before.invariant.records c.loop-before.invariant.living in
     let noted : c.note_births.new.log.records ≡ c.loop-before.log.records ++ map (λ id. Birth (n + 1) id) ids = c.in_ok-note_births.ensures.records in
     let more : c.note_births.new.living.items ≡ c.loop-before.living.items ++ ids = c.in_ok-note_births.ensures.living in
-    let seen : c.deref.result.now ≡ lived_in v w =
-    c.deref.ensures.value ∙ more ∙ ap (λ (l : List ℕ). l ++ ids) c.loop-before.invariant.living ∙ ap (λ (l : List ℕ). ids_of v.living ++ l) born in
+    let seen : c.note_births.new.living.items ≡ lived_in v w =
+    more ∙ ap (λ (l : List ℕ). l ++ ids) c.loop-before.invariant.living ∙ ap (λ (l : List ℕ). ids_of v.living ++ l) born in
     let dead = c.in_ok-living-2.ensures.records in
     let born_records : List ℕ → List Record = λ (l : List ℕ). map (λ id. Birth (n + 1) id) l in
     let dead_records : List ℕ → List Record = λ (l : List ℕ). map (λ id. Death (n + 1) id) (filter (λ id. not (lives w id)) l) in
@@ -283,3 +282,42 @@ returns-clause-counts c =
     λ q below. ap (λ (i : ℕ). point_of i (up_to q c.loop-before.log.records)) c.loop-before.invariant.inoculated
     ∙ ap (λ (rs : List Record). point_of (length (start setup).living) (up_to q rs)) (c.loop-before.invariant.records ∙ ap (run_records setup) all)
     ∙ points-are setup c.args.quanta q h c.requires below
+
+pub overflow_sub-died : goal.overflow_sub-died
+overflow_sub-died c =
+    let setup : SetupFields = c.args.setup.now in
+    let h : IsSetup setup = c.count_of-inoculated.ensures.setup in
+    let n : ℕ = c.loop-before.before in
+    let v : World = c.loop-before.world.world in
+    let w : World = c.in_ok-world-2.world.world in
+    let turn : IsTurn setup n v w =
+    is-turn setup n v w h (omega (arith, c.loop-before-test.true, c.requires)) c.loop-before.invariant.world (c.in_ok-world-2.ensures ∙ after-one v) in
+    let dead : v.deaths + length (dead_in v w) ≡ w.deaths = deaths-counted v w turn.sound_before turn.sound_after turn.later in
+    omega (arith, dead, c.deaths-dead.ensures, c.deaths.ensures)
+
+pub note_deaths-requires-clause-died : goal.note_deaths-requires-clause-died
+note_deaths-requires-clause-died c =
+    let setup : SetupFields = c.args.setup.now in
+    let h : IsSetup setup = c.count_of-inoculated.ensures.setup in
+    let n : ℕ = c.loop-before.before in
+    let v : World = c.loop-before.world.world in
+    let w : World = c.in_ok-world-2.world.world in
+    let turn : IsTurn setup n v w =
+    is-turn setup n v w h (omega (arith, c.loop-before-test.true, c.requires)) c.loop-before.invariant.world (c.in_ok-world-2.ensures ∙ after-one v) in
+    let dead : v.deaths + length (dead_in v w) ≡ w.deaths = deaths-counted v w turn.sound_before turn.sound_after turn.later in
+    let inoculated : c.count_of-inoculated.result ≡ length (start setup).living =
+    c.count_of-inoculated.ensures.count ∙ start-count setup in
+    let first : ℕ = c.count_of-inoculated.result + c.births.result + 1 in
+    let next : ℕ = c.count_of-inoculated.result + c.births-in-loop-before.result + 1 in
+    let ids : List ℕ = range_with_len first (next - first) in
+    let born : ids ≡ born_in v w =
+    ap (λ (b : ℕ). range_with_len (c.count_of-inoculated.result + b + 1) (next - (c.count_of-inoculated.result + b + 1))) c.births.ensures
+    ∙ ap (λ (b : ℕ). range_with_len (c.count_of-inoculated.result + v.births + 1) (c.count_of-inoculated.result + b + 1 - (c.count_of-inoculated.result + v.births + 1))) c.births-in-loop-before.ensures
+    ∙ turn-born setup n c.count_of-inoculated.result v w turn inoculated in
+    let more : c.note_births.new.living.items ≡ c.loop-before.living.items ++ ids = c.in_ok-note_births.ensures.living in
+    let seen : c.note_births.new.living.items ≡ lived_in v w =
+    more ∙ ap (λ (l : List ℕ). l ++ ids) c.loop-before.invariant.living ∙ ap (λ (l : List ℕ). ids_of v.living ++ l) born in
+    let count : length (filter (λ id. not (lives w id)) c.note_births.new.living.items) ≡ length (dead_in v w) =
+    ap (λ (l : List ℕ). length (filter (λ id. not (lives w id)) l)) seen in
+    let down : length (dead_in v w) ≡ c.deaths.result - c.deaths-dead.result = omega (arith, dead, c.deaths-dead.ensures, c.deaths.ensures) in
+    count ∙ down

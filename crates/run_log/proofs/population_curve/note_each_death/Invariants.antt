@@ -3,7 +3,7 @@ use Rattle.std.specs.Prelude.{filter, not}
 use Rattle.run_log.specs.Curve.{lives}
 use Rattle.run_log.specs.declared.record.Record.TheVariants.{Death}
 use Rattle.run_log.specs.Records.{living_in}
-use Rattle.run_log.proofs.population_curve.note_deaths.Given as goal
+use Rattle.run_log.proofs.population_curve.note_each_death.Given as goal
 
 abbrev pub invariant-loop-id : goal.invariant-loop-id
 invariant-loop-id l = record {
