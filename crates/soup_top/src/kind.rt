@@ -40,6 +40,6 @@ pub(crate) fn kind_by(action: Action) -> Kind
         Action::Curve => Kind::TellFile,
         Action::Probe => Kind::TellBank,
         Action::Watch => Kind::NotBuilt,
-        Action::Isles => Kind::NotBuilt,
+        Action::Isles => Kind::TellFile,
     }
 }

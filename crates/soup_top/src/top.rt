@@ -162,7 +162,7 @@ pub fn tierra<R: Threads + Wait + Sync, S: Source, D: Desk, G: Gate + Sync>(
     ensures disk_steady { UnlessDiskFault result ((D.state desk.new).disk_faults ≡ 0) }
     ensures tell_steady { UnlessTellFault result ((D.state desk.new).tell_faults ≡ 0) }
 {
-    match task_asked(alloc, words, source) {
+    match task_asked(rt, alloc, words, source) {
         Ok(task) => match carry_out(rt, alloc, desk, gate, task) {
             Ok(()) => Status::Done,
             Err(stop) => Status::from(stop),

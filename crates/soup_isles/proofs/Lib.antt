@@ -1,0 +1,4 @@
+mod Settlers
+mod Joining
+mod Worlds
+mod Lines

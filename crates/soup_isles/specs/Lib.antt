@@ -1,0 +1,3 @@
+pub mod Isles
+pub mod Runs
+pub mod Text
