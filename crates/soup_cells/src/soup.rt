@@ -57,8 +57,7 @@ impl Soup {
     {
         match &self.form {
             Form::Row(row) => row.get(at),
-            Form::Own(pages) => pages.get(at),
-            Form::Shared(pages) => pages.get(at),
+            form => get_from_pages(form, at),
         }
     }
 
@@ -102,6 +101,21 @@ impl Soup {
     {
         let pages = share(&mut self.form)?;
         Ok(Version::of(pages))
+    }
+}
+
+// The code in a cell of pages. It stands apart so that a look into a row is inlined.
+#[inline(never)]
+fn get_from_pages(form: &Form, at: u32) -> u8
+    requires pages { is_row form.now ≡ false }
+    requires within { at < length (form_cells form.now).cells }
+    ensures value { result ≡ slice_index (form_cells form.now).cells at }
+    ensures code { result < 32 }
+{
+    match form {
+        Form::Row(_) => unreachable!(),
+        Form::Own(pages) => pages.get(at),
+        Form::Shared(pages) => pages.get(at),
     }
 }
 
