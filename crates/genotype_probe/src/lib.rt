@@ -1,20 +1,21 @@
 //! What the daughters of saved genotypes cost, each genotype alone in a fresh soup.
 #![tactic(auto)]
 
+mod dealing;
 #[cfg(test)]
 mod tests;
 mod text;
 
 ghost use Rattle.std.specs.Prelude.{◌≡◌, ◌++◌, ◌<◌, ◌≤◌, All, IfOk, OnOk, map};
-ghost use Rattle.std.specs.Thread.{IsSync};
 ghost use Rattle.tierra_model.specs.Ranges.{IsCode};
 ghost use Rattle.tierra_model.specs.World.{genotype_at};
 ghost use Rattle.genotype_probe.specs.Probes.{HasCode, efforts_of, probe, probe_all, saved_of};
 
+use crate::dealing::probe_dealt;
 use serial_slicer::run_serial;
 use std::alloc::Global;
 use std::marker::Model;
-use std::thread::{Threads, join};
+use std::thread::Threads;
 pub use text::probe_text;
 use tierra_model::{Code, Effort, Group, Groups, OutOfMemory, Saved, grow_setup};
 use world_core::World;
@@ -70,7 +71,7 @@ fn efforts_of(world: &World) -> Efforts
     }
 }
 
-/// Probes the saved genotypes of the groups, cut into as many parts as there are workers, each part on a thread.
+/// Probes the saved genotypes of the groups, dealt to as many parts as there are workers, each part on a thread.
 pub fn probe_all<R: Threads + Sync>(
     rt: &R,
     alloc: Global,
@@ -83,7 +84,7 @@ pub fn probe_all<R: Threads + Sync>(
     ensures { IfOk result (λ e. e ≡ probe_all groups.now n) }
 {
     let saved = saved_of(alloc, groups)?;
-    let items = probe_parts(rt, alloc, &saved, n, workers)?;
+    let items = probe_dealt(rt, alloc, &saved, n, workers)?;
     Ok(EffortList { items })
 }
 
@@ -121,52 +122,4 @@ fn copy_of(saved: &Saved) -> Result<Saved, OutOfMemory>
         second: saved.second,
         code: Code { items },
     })
-}
-
-// In as many parts as there are workers.
-pub(crate) fn probe_parts<R: Threads + Sync>(
-    rt: &R,
-    alloc: Global,
-    saved: &[Saved],
-    n: u64,
-    workers: u32,
-) -> Result<Vec<Efforts>, OutOfMemory>
-    requires codes { All HasCode saved.now }
-    requires quanta { (1 ≤ n) × (n ≤ 4000000) }
-    requires workers { (1 ≤ workers) × (workers ≤ 64) }
-    ensures { IfOk result (λ v. v.items ≡ map (λ s. probe s.code n) saved.now) }
-{
-    if workers == 1 {
-        return probe_each(alloc, saved, n);
-    }
-    let others = workers / 2;
-    let (theirs, ours) = saved.split_at(saved.len() / workers as usize * others as usize);
-    let (first, second) = join(
-        rt,
-        || -> Result<Vec<Efforts>, OutOfMemory>
-            requires { IsSync R.row × All HasCode theirs.now
-                × ((1 ≤ n) × (n ≤ 4000000)) × ((1 ≤ others) × (others ≤ 64)) }
-            ensures { IfOk result (λ v. v.items ≡ map (λ s. probe s.code n) theirs.entry.now) }
-        { probe_parts(rt, alloc, theirs, n, others) },
-        || -> Result<Vec<Efforts>, OutOfMemory>
-            requires { IsSync R.row × All HasCode ours.now
-                × ((1 ≤ n) × (n ≤ 4000000)) × ((1 ≤ others) × (others < workers) × (workers ≤ 64)) }
-            ensures { IfOk result (λ v. v.items ≡ map (λ s. probe s.code n) ours.entry.now) }
-        { probe_parts(rt, alloc, ours, n, workers - others) },
-    );
-    let mut all = first?;
-    all.extend_from_slice(&second?)?;
-    Ok(all)
-}
-
-fn probe_each(alloc: Global, saved: &[Saved], n: u64) -> Result<Vec<Efforts>, OutOfMemory>
-    requires codes { All HasCode saved.now }
-    requires quanta { (1 ≤ n) × (n ≤ 4000000) }
-    ensures { IfOk result (λ v. v.items ≡ map (λ s. probe s.code n) saved.now) }
-{
-    let mut all = Vec::new(alloc);
-    for genotype in saved {
-        all.push(probe(alloc, &genotype.code, n)?)?;
-    }
-    Ok(all)
 }

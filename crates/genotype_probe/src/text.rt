@@ -3,7 +3,8 @@
 ghost use Rattle.std.specs.Prelude.{◌≡◌, ◌≤◌, ◌++◌, IfOk, OnOk};
 ghost use Rattle.genotype_probe.specs.Text.{effort_text, probe_line, probe_text};
 
-use crate::{Efforts, probe_parts, saved_of};
+use crate::dealing::probe_dealt;
+use crate::{Efforts, saved_of};
 use genotyper::name_text;
 use std::alloc::Global;
 use std::thread::Threads;
@@ -22,7 +23,7 @@ pub fn probe_text<R: Threads + Sync>(
     ensures { IfOk result (λ text. text ≡ probe_text groups.now n) }
 {
     let saved = saved_of(alloc, groups)?;
-    let efforts = probe_parts(rt, alloc, &saved, n, workers)?;
+    let efforts = probe_dealt(rt, alloc, &saved, n, workers)?;
     let mut items = Vec::new(alloc);
     for (place, genotype) in saved.iter().enumerate() {
         add_line(alloc, &mut items, &genotype.name, &efforts[place])?;

@@ -1,7 +1,7 @@
 use Rattle.std.proofs.Common.{◌≡◌, ◌++◌, drop}
 use Rattle.std.specs.List.{flat_map}
 use Rattle.genotype_probe.specs.Probes.{probe}
-use Rattle.genotype_probe.specs.Text.{probe_line, probe_text}
+use Rattle.genotype_probe.specs.Text.{probe_line}
 use Rattle.genotype_probe.proofs.text.probe_text.Given as goal
 
 abbrev pub invariant-loop-place : goal.invariant-loop-place
