@@ -11,17 +11,18 @@ _tierra_options() {
     drill) echo '--quanta --number' ;;
     dump) echo '--quanta' ;;
     curve) echo '--quanta --every' ;;
+    watch) echo '--quanta --workers --looks' ;;
     isles) echo '--quanta --workers --isles --epochs' ;;
     asm | dis | bank) ;;
-    *) echo '--quanta --workers --number --every --isles --epochs' ;;
+    *) echo '--quanta --workers --number --every --looks --isles --epochs' ;;
   esac
 }
 
 _tierra() {
-  local actions='grow run drill dump curve isles bank probe asm dis'
+  local actions='grow run drill dump curve watch isles bank probe asm dis'
   local current=${COMP_WORDS[COMP_CWORD]} before=${COMP_WORDS[COMP_CWORD - 1]} action='' word options=''
   case $before in
-    --quanta | --workers | --number | --every | --isles | --epochs | '<') return ;;
+    --quanta | --workers | --number | --every | --looks | --isles | --epochs | '<') return ;;
   esac
   for word in "${COMP_WORDS[@]:1:COMP_CWORD-1}"; do
     case " $actions " in

@@ -17,5 +17,5 @@ mod worker;
 
 pub use gate::{FreeGate, Gate};
 pub use hand::{Hand, Next};
-pub use runs::{Ran, run_crew};
+pub use runs::{Ran, run_crew, seat_for};
 pub use worker::work;

@@ -49,8 +49,8 @@ fn work_with<R: Wait, G: Gate>(
     work(rt, alloc, lock, seat, gate)
 }
 
-// A seat for the next worker.
-fn seat_for(lock: &TurnLock<Book>, first: &mut Seat, caller: u32) -> Result<Seat, OutOfMemory>
+/// A seat for the next caller, split off from that of worker 1.
+pub fn seat_for(lock: &TurnLock<Book>, first: &mut Seat, caller: u32) -> Result<Seat, OutOfMemory>
     requires first { IsFirst lock.now caller first.old }
     requires callers { (2 ≤ caller) × (caller ≤ 64) }
     ensures other { IfOk result (IsOther lock.now caller) }

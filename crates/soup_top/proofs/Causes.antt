@@ -16,10 +16,11 @@ use Rattle.soup_top.specs.declared.status.Status.TheVariants as status
 use Rattle.soup_top.specs.declared.stop.RunStop.{RunStop}
 use Rattle.soup_top.specs.declared.stop.RunStop.TheVariants as stop
 use Rattle.tierra_model.specs.Setups.{SetupFields}
+use Rattle.soup_watch.proofs.SomeText.{some_watch_text}
 use Rattle.soup_top.specs.Answers.{AskingCause, AsksForRunOf, Cause, DiskIsOfRun, ForOrder, IsAccepted, OnBankRefused, RefusesOrder}
 use Rattle.soup_top.specs.Genebank.{DiskIsOfHistory, RefusesRun}
 use Rattle.soup_top.specs.Keeping.{IsToldAtRefusal}
-use Rattle.soup_top.specs.Sources.{IsSetupOf, IsTextBy, IsTextOf, Refused, read_by, run_groups, run_text}
+use Rattle.soup_top.specs.Sources.{IsSetupOf, IsSoupSource, IsTextBy, IsTextOf, Refused, read_by, run_groups, run_text}
 use Rattle.soup_top.specs.Statuses.{status_of}
 use Rattle.soup_top.specs.Stops.{CountsStop, IfRefused}
 use Rattle.soup_top.specs.Tasks.{IsTaskOf, IsToldWhenRefused, OfText, RefusesTask}
@@ -48,6 +49,7 @@ run-uses-disk kind.TellHex r = r
 run-uses-disk kind.TellBank r = tt
 run-uses-disk kind.NotBuilt r = r
 run-uses-disk kind.TellFile r = r
+run-uses-disk kind.WatchFile r = r
 
 refuses-run : (what : Kind) (n : ℕ) (left file : Option (List ℕ)) (setup : SetupFields) (f : BankFault) → IsRun what
     → IfSome left (λ bytes. IsSetupOf what bytes setup) → IfSome file (λ image. RefusesRun setup n image f) → RefusesOrder what n left file f
@@ -58,6 +60,7 @@ refuses-run kind.TellHex n left file setup f r s h = absurd r
 refuses-run kind.TellBank n left file setup f r s h = absurd r
 refuses-run kind.NotBuilt n left file setup f r s h = absurd r
 refuses-run kind.TellFile n left file setup f r s h = absurd r
+refuses-run kind.WatchFile n left file setup f r s h = absurd r
 
 refuses-task : (words : List (List ℕ)) (left file : Option (List ℕ)) (t : Task) (f : BankFault) → IsTaskOf words left t
     → RefusesTask t file f → ForOrder words (λ order. RefusesOrder (kind_of order) order.quanta left file f)
@@ -67,6 +70,7 @@ refuses-task words left file (task.Run setup n w) f is h =
 refuses-task words left file (task.Tell text) f is h = absurd h
 refuses-task words left file (task.Bank asked) f is h =
     (is.0, is.1, subst (λ (a : Kind). RefusesOrder a is.0.quanta left file f) (sym is.2.0) h)
+refuses-task words left file (task.Watch setup asked) f is h = absurd h
 
 run-accepted : (what : Kind) (order : Order) (setup : SetupFields) (left : Option (List ℕ)) → IsRun what
     → IfSome left (λ bytes. IsSetupOf what bytes setup) → IfSome left (λ bytes. (text : List ℕ) × IsTextBy what order bytes text)
@@ -77,12 +81,20 @@ run-accepted kind.TellHex order setup left r s = absurd r
 run-accepted kind.TellBank order setup left r s = absurd r
 run-accepted kind.NotBuilt order setup left r s = absurd r
 run-accepted kind.TellFile order setup left r s = absurd r
+run-accepted kind.WatchFile order setup left r s = absurd r
+
+watch-accepted : (what : Kind) (order : Order) (setup : SetupFields) (left : Option (List ℕ)) → what ≡ kind.WatchFile
+    → IfSome left (λ bytes. IsSoupSource bytes setup) → IfSome left (λ bytes. (text : List ℕ) × IsTextBy what order bytes text)
+watch-accepted what order setup left is s =
+    subst (λ (a : Kind). IfSome left (λ bytes. (text : List ℕ) × IsTextBy a order bytes text)) (sym is)
+    (IfSome_then left s (λ bytes gives. let some = some_watch_text setup order.quanta order.looks in (some.0, (setup, gives, some.1))))
 
 -- a task comes of a source that is accepted
 task-accepted : (words : List (List ℕ)) (left : Option (List ℕ)) (t : Task) (is : IsTaskOf words left t) → IsAccepted is.0 left
 task-accepted words left (task.Run setup n w) is reads = run-accepted (kind_of is.0) is.0 setup left is.2.0 is.2.2
 task-accepted words left (task.Tell text) is reads = IfSome_then left is.2.1 (λ bytes told. (text, told))
 task-accepted words left (task.Bank asked) is reads = absurd (subst ReadsSource is.2.0 reads)
+task-accepted words left (task.Watch setup asked) is reads = watch-accepted (kind_of is.0) is.0 setup left is.2.0 is.2.2
 
 disk-task : (words : List (List ℕ)) (left : Option (List ℕ)) (t : Task) (disk : ℕ) → IsTaskOf words left t → OfText t (disk ≡ 0) → 0 < disk
     → ForOrder words (λ order. UsesDisk (kind_of order) × IsAccepted order left)
@@ -91,6 +103,7 @@ disk-task words left (task.Run setup n w) disk is none some =
 disk-task words left (task.Tell text) disk is none some = absurd (omega arith)
 disk-task words left (task.Bank asked) disk is none some =
     (is.0, is.1, (subst UsesDisk (sym is.2.0) tt, task-accepted words left (task.Bank asked) is))
+disk-task words left (task.Watch setup asked) disk is none some = absurd (omega arith)
 
 -- an answer at which what was asked stops
 pub stop-has-cause : (words : List (List ℕ)) (left file : Option (List ℕ)) (R : Type 0) (t : Task) (d : DeskState) (s : RunStop)
@@ -112,6 +125,7 @@ source-refused kind.TellHex order bytes text left file f r e t h = not-refused k
 source-refused kind.TellBank order bytes text left file f r e t h = r
 source-refused kind.NotBuilt order bytes text left file f r e t h = r
 source-refused kind.TellFile order bytes text left file f r e t h = not-refused kind.TellFile order bytes text f t (rw e at h)
+source-refused kind.WatchFile order bytes text left file f r e t h = not-refused kind.WatchFile order bytes text f t (rw e at h)
 
 -- nor is the disk of a run's history, or a file that has groups
 bank-refused : (what : Kind) (order : Order) (bytes text : List ℕ) (left file : Option (List ℕ)) (may_leave : List ℕ → Type 0) (f : BankFault)
@@ -128,6 +142,7 @@ bank-refused kind.TellBank order bytes text left file may_leave f e t disk h =
     let one = says_one bytes None (Ok t.0) (Err f) t.1 (rw e at h) in cc
 bank-refused kind.NotBuilt order bytes text left file may_leave f e t disk h = h.0
 bank-refused kind.TellFile order bytes text left file may_leave f e t disk h = h.0
+bank-refused kind.WatchFile order bytes text left file may_leave f e t disk h = h.0
 
 -- so accepted words and bytes, and for a run a disk of its history, give Done or want of memory where nothing failed
 pub complete-by : (words : List (List ℕ)) (left file : Option (List ℕ)) (may_leave : List ℕ → Type 0) (order : Order) (bytes text : List ℕ)

@@ -1,6 +1,6 @@
 -- One group more is taken to the bank of a run, and what comes of all of them.
 use Rattle.std.proofs.Common.{◌≡◌, ◌∙◌, refl, sym, ap, ap₂, subst, arith, ℕ, zero, suc, ◌+◌, ◌<◌, ◌≤◌, List, [], ◌∷◌, ◌++◌, length, length-append, take, append-nil, Option, Some, None, Result, Ok, Err, OnOk}
-use Rattle.std.specs.Prelude.{IfErr, IfSome, MatchOption, OnErr, slice_get, unwrap_or}
+use Rattle.std.specs.Prelude.{IfErr, IfSome, MatchOption, slice_get, unwrap_or}
 use Rattle.std.proofs.lemmas.List.{drop_all}
 use Rattle.std.proofs.lemmas.Option.{same_Some, slice_get_within}
 use Rattle.tierra_model.specs.Genebank.{bank, group_if_any, saved_in}
@@ -10,7 +10,7 @@ use Rattle.tierra_model.specs.Serial.{serial}
 use Rattle.tierra_model.specs.Setups.{SetupFields}
 use Rattle.bank_recover.specs.declared.faults.BankFault.TheVariants as fault
 use Rattle.bank_journal.specs.Journal.{BankState, IsAtRest, IsAttached}
-use Rattle.bank_journal.specs.Steps.{IsTold, StaysTold}
+use Rattle.bank_journal.specs.Steps.{IsTold}
 use Rattle.bank_journal.proofs.Times.{for_file, stays_then}
 use Rattle.desk_io.specs.Desk.{Appended, AppendedSome, DeskState, Elapses, KeepsDisk, TellsText}
 use Rattle.desk_io.proofs.Time.{Elapses-none, KeepsDisk-none, KeepsDisk-then}
@@ -18,8 +18,8 @@ use Rattle.report_text.specs.Bank.{saved_lines}
 use Rattle.soup_top.specs.declared.stop.RunStop.{RunStop}
 use Rattle.soup_top.specs.declared.stop.RunStop.TheVariants as stop
 use Rattle.soup_top.specs.Genebank.{IsFirstToDiffer}
-use Rattle.soup_top.specs.Handing.{HasStopped, HasTaken, TakenSoFar, number_of_stops}
-use Rattle.soup_top.specs.Keeping.{Completes, DiffersAt, IsKeeping, IsTaken, IsTaking, Takes, completed, group_lines}
+use Rattle.soup_top.specs.Handing.{HasStopped, HasTaken, number_of_stops}
+use Rattle.soup_top.specs.Keeping.{Completes, DiffersAt, IsKeeping, IsTaking, Takes, group_lines}
 use Rattle.soup_top.specs.Sources.{run_groups}
 use Rattle.soup_top.specs.Stops.{CountsStop, CountsStops, IfDiffers}
 use Rattle.soup_top.proofs.RunLines.{lines_so_far}

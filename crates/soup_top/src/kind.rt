@@ -20,6 +20,8 @@ pub(crate) enum Kind {
     TellFile,
     /// Tells something of the genebank.
     TellBank,
+    /// Runs a soup file, and tells what an observer sees.
+    WatchFile,
     /// The program does not have it.
     NotBuilt,
 }
@@ -39,7 +41,7 @@ pub(crate) fn kind_by(action: Action) -> Kind
         Action::Hold => Kind::NotBuilt,
         Action::Curve => Kind::TellFile,
         Action::Probe => Kind::TellBank,
-        Action::Watch => Kind::NotBuilt,
+        Action::Watch => Kind::WatchFile,
         Action::Isles => Kind::TellFile,
     }
 }

@@ -3,6 +3,7 @@
 ghost use Rattle.std.specs.Prelude.{◌≡◌, ◌⊎◌, ◌+◌, ◌<◌, ◌≤◌, [], ℕ, List, Some, IfErr, IfSome, OnErr, OnOk, length, take};
 ghost use Rattle.bank_recover.specs.declared.faults.BankFault.{BankFault};
 ghost use Rattle.desk_io.specs.Desk.{Appended, Elapses, HasNoFault, IsTellCall, Untouched};
+ghost use Rattle.soup_watch.specs.Watching.{IsWatchText};
 ghost use Rattle.soup_words.specs.Orders.{IsInRange};
 ghost use Rattle.soup_words.specs.declared.order.Order.{Order};
 ghost use Rattle.soup_top.specs.Answers.{Cause, DiskIsOfRun, EachMoment, EachRun, GivesNoRun, IsAllTold, IsToldInPart, OnBankRefused, OnDone, OnReadWhole, OnUncalled, UnlessDiskFault, UnlessReadFault, UnlessTellFault};
@@ -21,11 +22,12 @@ use crate::texts::groups_text;
 use bank_journal::read_bank;
 use crew::Gate;
 use desk_io::{Desk, Source, TellFailed};
+use soup_watch::watch;
 use soup_words::Order;
 use std::alloc::Global;
 use std::sync::Wait;
 use std::thread::Threads;
-use tierra_model::Text;
+use tierra_model::{Setup, Text};
 
 /// Tells the text. An empty one is no tell.
 fn tell_some<D: Desk>(desk: &mut D, text: &Text) -> Result<(), TellFailed>
@@ -57,6 +59,30 @@ fn tell_bank<R: Threads + Sync, D: Desk>(
     let groups = read_bank(alloc, desk)?;
     let text = groups_text(rt, alloc, order, &groups)?;
     Ok(tell_some(desk, &text)?)
+}
+
+/// Runs the setup, and tells what an observer saw of it.
+fn watch_and_tell<R: Threads + Wait + Sync, G: Gate + Sync, D: Desk>(
+    rt: &R,
+    alloc: Global,
+    desk: &mut D,
+    gate: &G,
+    setup: Setup,
+    order: Order,
+) -> Result<(), RunStop>
+    requires range { IsInRange order }
+    requires workers { order.workers ≤ 63 }
+    requires sound { HasNoFault (D.state desk.old) }
+    ensures told { OnOk result ((text : List ℕ) × IsWatchText setup order.quanta order.looks text × Appended (D.state desk.old).told text (D.state desk.new).told) }
+    ensures partly { OnErr result (((D.state desk.new).told ≡ (D.state desk.old).told) ⊎ ((text : List ℕ) × (k : ℕ) × IsWatchText setup order.quanta order.looks text × Appended (D.state desk.old).told (take k text) (D.state desk.new).told)) }
+    ensures refused { IfErr result (λ s. IfRefused s (λ f. ⊥)) }
+    ensures untouched { Untouched (D.state desk.old) (D.state desk.new) }
+    ensures disk { (D.state desk.new).disk_faults ≡ 0 }
+    ensures counts { CountsStops result (D.state desk.new) }
+{
+    let looks = order.looks;
+    let text = watch(rt, alloc, gate, setup, order.quanta, order.workers, looks)?;
+    Ok(desk.tell(&text.items)?)
 }
 
 /// Does what was asked.
@@ -92,6 +118,7 @@ fn carry_out<R: Threads + Wait + Sync, G: Gate + Sync, D: Desk>(
         } => run(rt, alloc, desk, gate, setup, quanta, workers),
         Task::Tell { text } => Ok(desk.tell(&text.items)?),
         Task::Bank { order } => tell_bank(rt, alloc, desk, order),
+        Task::Watch { setup, order } => watch_and_tell(rt, alloc, desk, gate, setup, order),
     }
 }
 

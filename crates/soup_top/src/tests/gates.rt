@@ -86,12 +86,16 @@ fn run_watched<R: Threads + Wait + Sync>(
 
 #[test]
 fn a_hold_ends_by_another_worker(rt: HostRuntime) -> Result<(), Fail> {
-    let gate = Watch::new(true);
-    let words = "run --quanta 200 --workers 3";
-    let status = run_watched(&rt, rt.alloc(), words, &gate)?;
-    assert_eq!(rt; status, Status::Done);
-    assert!(rt; !gate.is_limit_met.load(Ordering::SeqCst));
-    assert!(rt; gate.is_ended_by_another.load(Ordering::SeqCst));
+    for words in [
+        "run --quanta 200 --workers 3",
+        "watch --quanta 200 --workers 2",
+    ] {
+        let gate = Watch::new(true);
+        let status = run_watched(&rt, rt.alloc(), words, &gate)?;
+        assert_eq!(rt; status, Status::Done, "{words}");
+        assert!(rt; !gate.is_limit_met.load(Ordering::SeqCst), "{words}");
+        assert!(rt; gate.is_ended_by_another.load(Ordering::SeqCst), "{words}");
+    }
     Ok(())
 }
 

@@ -1,11 +1,9 @@
-use Rattle.std.proofs.Common.{◌≡◌, ◌∙◌, sym, ap, subst, ℕ, length, Result, Ok, Err, OnOk}
-use Rattle.std.specs.Prelude.{IfErr, IfOk}
+use Rattle.std.proofs.Common.{◌≡◌, ◌∙◌, sym, ap, subst, ℕ}
 use Rattle.std.proofs.lemmas.Result.{IfErr-weaker, IfOk-weaker}
 use Rattle.bank_journal.proofs.Times.{always_ok}
 use Rattle.tierra_model.specs.Serial.{serial}
 use Rattle.tierra_model.specs.Setups.{SetupFields}
 use Rattle.report_text.specs.Report.{report}
-use Rattle.soup_top.specs.declared.stop.RunStop.{RunStop}
 use Rattle.soup_top.specs.Handing.{HasTaken, StopsAt, TookAll}
 use Rattle.soup_top.specs.Sources.{run_groups, run_report}
 use Rattle.soup_top.proofs.Handed.{none_stopped, stopped_as, want_stops}

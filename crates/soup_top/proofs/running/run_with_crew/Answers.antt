@@ -1,4 +1,4 @@
-use Rattle.std.proofs.Common.{refl, sym, ap, subst, ◌≡◌, ℕ, List, length, None, Some, OnOk, IfSome}
+use Rattle.std.proofs.Common.{refl, ℕ, List, length, OnOk}
 use Rattle.std.specs.Prelude.{IfErr}
 use Rattle.bank_journal.specs.Journal.{BankState}
 use Rattle.bank_journal.proofs.Times.{for_file}

@@ -1,0 +1,6 @@
+mod Orders
+mod Labels
+mod WorkedRow
+pub mod SomeText
+mod Seen
+mod Seating

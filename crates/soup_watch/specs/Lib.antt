@@ -1,0 +1,4 @@
+pub mod Seeing
+pub mod Seats
+pub mod Text
+pub mod Watching

@@ -1,0 +1,50 @@
+//! A look at the world behind the turn lock.
+
+ghost use Rattle.std.specs.Prelude.{◌≡◌, ◌+◌, ◌<◌, ◌≤◌, ◌^◌, ℕ, IfOk};
+ghost use Rattle.tierra_model.specs.Serial.{serial};
+ghost use Rattle.turn_lock.specs.Seats.{own_of};
+ghost use Rattle.commit_book.specs.Books.{world_of};
+ghost use Rattle.soup_watch.specs.Seeing.{sight_of};
+
+use crate::sight::{Sight, sight_of};
+use commit_book::Book;
+use std::alloc::Global;
+use std::sync::Wait;
+use tierra_model::OutOfMemory;
+use turn_lock::{Seat, TurnLock};
+
+/// Takes a turn, looks at the world, and gives the book back as it was. The seat has then seen what it looked at, and
+/// nothing is committed. Want of memory ends the turn all the same.
+pub fn look<R: Wait>(
+    rt: &R,
+    alloc: Global,
+    lock: &TurnLock<Book>,
+    seat: Seat,
+) -> (Seat, Result<Sight, OutOfMemory>)
+    requires lock { seat.lock ≡ lock.now }
+    requires room { seat.turns < 2 ^ 40 }
+    ensures sight { IfOk result.1 (λ s. s ≡ sight_of (serial lock.now.opening.setup.0 result.0.seen)) }
+    ensures quanta { IfOk result.1 (λ s. s.quanta ≡ result.0.seen) }
+    ensures seen { seat.seen ≤ result.0.seen }
+    ensures lock { result.0.lock ≡ seat.lock }
+    ensures caller { result.0.caller ≡ seat.caller }
+    ensures own { (c : ℕ) → own_of result.0 c ≡ own_of seat c }
+    ensures last { result.0.last_caller ≡ seat.last_caller }
+    ensures turns { result.0.turns ≡ seat.turns + 1 }
+{
+    let (turn, book) = lock.take(rt, seat);
+    let sight = sight_in(alloc, &book);
+    let seat = lock.give(turn, book);
+    (seat, sight)
+}
+
+// What is seen of the book's world.
+fn sight_in(alloc: Global, book: &Book) -> Result<Sight, OutOfMemory>
+    ensures sight { IfOk result (λ s. s ≡ sight_of (world_of book.now)) }
+    ensures quanta { IfOk result (λ s. s.quanta ≡ book.now.committed) }
+{
+    let _soup_size = book.setup().settings.soup_size;
+    let _committed = book.committed();
+    let _quanta = book.quanta();
+    sight_of(alloc, book.world())
+}

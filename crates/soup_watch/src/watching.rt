@@ -1,0 +1,393 @@
+//! A run that an observer watches.
+
+ghost use Rattle.std.specs.Prelude.{◌≡◌, ◌+◌, ◌++◌, ◌<◌, ◌≤◌, ◌^◌, IfOk, OnOk, min};
+ghost use Rattle.std.specs.Thread.{IsSync};
+ghost use Rattle.tierra_model.specs.Serial.{serial};
+ghost use Rattle.commit_book.specs.Books.{world_of};
+ghost use Rattle.commit_book.specs.Giving.{MayGive};
+ghost use Rattle.crew.specs.Works.{HasWorked, IsFirst, IsOther, IsThere};
+ghost use Rattle.report_text.specs.Report.{report};
+ghost use Rattle.soup_watch.specs.Seats.{HasSeen, IsDone, IsJoined, IsLead, IsWatched};
+ghost use Rattle.soup_watch.specs.Text.{sights_text};
+ghost use Rattle.soup_watch.specs.Watching.{AreSights, IsWatchText};
+
+use crate::looking::look;
+use crate::sights::Sights;
+use crate::text::sights_text;
+use crate::waiting::wait_until;
+use commit_book::{Advanced, Book};
+use crew::{Gate, seat_for, work};
+use report_text::report;
+use std::alloc::{AllocError, Global};
+use std::marker::Brand;
+use std::sync::Wait;
+use std::sync::ledger::{Blank, Ledger};
+use std::thread::{Threads, join_mut};
+use step_count::Steps;
+use tierra_model::{OutOfMemory, Setup, Text};
+use turn_lock::{Seat, TurnLock};
+
+/// What comes of the workers and their observer: the seat of worker 1, that of the observer, with which those of the
+/// other workers were joined, and what was seen.
+#[derive(Drop)]
+pub(crate) struct Watched {
+    lead: Seat,
+    observer: Seat,
+    sights: Sights,
+}
+
+// A worker's turns, on a seat that is taken.
+fn work_on<R: Wait, G: Gate>(
+    rt: &R,
+    alloc: Global,
+    lock: &TurnLock<Book>,
+    caller: u32,
+    seat: &mut Option<Seat>,
+    gate: &G,
+) -> Seat
+    requires seat { IsThere seat.old (IsOther lock.now caller) }
+    requires few { lock.now.opening.setup.1 ≤ 4000000 }
+    ensures { IsDone lock.now caller result }
+{
+    let Some(seat) = seat.take() else {
+        unreachable!()
+    };
+    work(rt, alloc, lock, seat, gate)
+}
+
+// Worker 1's turns, on a seat from which the observer's was split off.
+fn lead_on<R: Wait, G: Gate>(
+    rt: &R,
+    alloc: Global,
+    lock: &TurnLock<Book>,
+    observer: u32,
+    seat: &mut Option<Seat>,
+    gate: &G,
+) -> Seat
+    requires seat { IsThere seat.old (IsFirst lock.now (observer + 1)) }
+    requires few { lock.now.opening.setup.1 ≤ 4000000 }
+    ensures { IsLead lock.now observer result }
+{
+    let Some(seat) = seat.take() else {
+        unreachable!()
+    };
+    work(rt, alloc, lock, seat, gate)
+}
+
+// Waits until so many quanta are committed, and looks.
+fn look_next<R: Wait>(
+    rt: &R,
+    alloc: Global,
+    lock: &TurnLock<Book>,
+    seat: Seat,
+    sights: &mut Sights,
+    number: u64,
+    quanta: u64,
+    stands_still: &mut bool,
+) -> Result<Seat, OutOfMemory>
+    requires lock { seat.lock ≡ lock.now }
+    requires turns { seat.turns < 2 ^ 39 }
+    requires room { 0 < sights.old.spare }
+    requires seen { HasSeen lock.now.opening.setup.0 number seat.seen sights.old.sights }
+    ensures worked { IfOk result (HasWorked 500000001 seat) }
+    ensures seen { IfOk result (λ s. HasSeen lock.now.opening.setup.0 (number + 1) s.seen sights.new.sights) }
+    ensures room { OnOk result (sights.old.spare ≡ sights.new.spare + 1) }
+{
+    let waited = wait_until(rt, lock, seat, quanta, stands_still);
+    let (seat, sight) = look(rt, alloc, lock, waited);
+    sights.add(sight?);
+    Ok(seat)
+}
+
+// Looks so often, spread over the run, and keeps room for one sight more.
+fn observe<R: Wait>(
+    rt: &R,
+    alloc: Global,
+    lock: &TurnLock<Book>,
+    seat: Seat,
+    quanta: u64,
+    looks: u64,
+) -> Result<(Seat, Sights), OutOfMemory>
+    requires lock { seat.lock ≡ lock.now }
+    requires turns { seat.turns ≡ 0 }
+    requires few { (quanta ≤ 4000000) × (looks ≤ 1000) }
+    ensures worked { IfOk result (λ r. HasWorked 500000001000 seat r.0) }
+    ensures seen { IfOk result (λ r. HasSeen lock.now.opening.setup.0 looks r.0.seen r.1.sights) }
+    ensures room { IfOk result (λ r. 0 < r.1.spare) }
+{
+    let mut seat = seat;
+    let mut sights = Sights::new(alloc);
+    let mut still = false;
+    sights.reserve(looks + 1)?;
+    for number in 0..looks {
+        let moment = quanta * number / looks;
+        let sights = &mut sights;
+        seat = look_next(rt, alloc, lock, seat, sights, number, moment, &mut still)?;
+    }
+    Ok((seat, sights))
+}
+
+// The same, on a seat that is taken.
+fn observe_on<R: Wait>(
+    rt: &R,
+    alloc: Global,
+    lock: &TurnLock<Book>,
+    observer: u32,
+    seat: &mut Option<Seat>,
+    quanta: u64,
+    looks: u64,
+) -> Result<(Seat, Sights), OutOfMemory>
+    requires seat { IsThere seat.old (IsOther lock.now observer) }
+    requires few { (quanta ≤ 4000000) × (looks ≤ 1000) }
+    ensures joined { IfOk result (λ r. IsJoined lock.now observer observer r.0) }
+    ensures seen { IfOk result (λ r. HasSeen lock.now.opening.setup.0 looks r.0.seen r.1.sights) }
+    ensures room { IfOk result (λ r. 0 < r.1.spare) }
+{
+    let Some(seat) = seat.take() else {
+        unreachable!()
+    };
+    observe(rt, alloc, lock, seat, quanta, looks)
+}
+
+// Worker 1, and the observer beside it.
+fn with_observer<R: Threads + Wait + Sync, G: Gate + Sync>(
+    rt: &R,
+    alloc: Global,
+    lock: &TurnLock<Book>,
+    first: &mut Option<Seat>,
+    observer: u32,
+    quanta: u64,
+    looks: u64,
+    gate: &G,
+) -> Result<Watched, OutOfMemory>
+    requires first { IsThere first.old (IsFirst lock.now observer) }
+    requires callers { (2 ≤ observer) × (observer ≤ 64) }
+    requires looks { looks ≤ 1000 }
+    requires run { lock.now.opening.setup.1 ≡ quanta }
+    requires few { quanta ≤ 4000000 }
+    ensures { IfOk result (IsWatched lock.now.opening.setup.0 lock.now observer observer looks) }
+{
+    let Some(mut seat) = first.take() else {
+        unreachable!()
+    };
+    let other = seat_for(lock, &mut seat, observer)?;
+    let mut theirs = Some(other);
+    let mut mine = Some(seat);
+    let (seen, lead) = join_mut(
+        rt,
+        &mut || -> Result<(Seat, Sights), OutOfMemory>
+            requires { IsSync R.row × IsThere theirs (IsOther lock.now observer)
+                × ((quanta ≤ 4000000) × (looks ≤ 1000)) }
+            ensures { IfOk result (λ r. IsJoined lock.entry.now observer observer r.0
+                × HasSeen lock.entry.now.opening.setup.0 looks r.0.seen r.1.sights × (0 < r.1.spare)) }
+        { observe_on(rt, alloc, lock, observer, &mut theirs, quanta, looks) },
+        &mut || -> Seat
+            requires { (IsSync R.row × IsSync G.row) × IsThere mine (IsFirst lock.now (observer + 1))
+                × (lock.now.opening.setup.1 ≤ 4000000) }
+            ensures { IsLead lock.entry.now observer result }
+        { lead_on(rt, alloc, lock, observer, &mut mine, gate) },
+    );
+    let (observer, sights) = seen?;
+    Ok(Watched {
+        lead,
+        observer,
+        sights,
+    })
+}
+
+// Worker 1, the workers from `caller` on, and the observer, whose number is the last.
+fn crew_from<R: Threads + Wait + Sync, G: Gate + Sync>(
+    rt: &R,
+    alloc: Global,
+    lock: &TurnLock<Book>,
+    first: &mut Option<Seat>,
+    caller: u32,
+    observer: u32,
+    quanta: u64,
+    looks: u64,
+    gate: &G,
+) -> Result<Watched, OutOfMemory>
+    requires first { IsThere first.old (IsFirst lock.now caller) }
+    requires callers { (2 ≤ caller) × (caller ≤ observer) × (observer ≤ 64) }
+    requires looks { looks ≤ 1000 }
+    requires run { lock.now.opening.setup.1 ≡ quanta }
+    requires few { quanta ≤ 4000000 }
+    ensures { IfOk result (IsWatched lock.now.opening.setup.0 lock.now caller observer looks) }
+{
+    if caller == observer {
+        return with_observer(rt, alloc, lock, first, observer, quanta, looks, gate);
+    }
+    let Some(mut seat) = first.take() else {
+        unreachable!()
+    };
+    let other = seat_for(lock, &mut seat, caller)?;
+    let mut theirs = Some(other);
+    let mut mine = Some(seat);
+    let (done, watched) = join_mut(
+        rt,
+        &mut || -> Seat
+            requires { (IsSync R.row × IsSync G.row) × IsThere theirs (IsOther lock.now caller)
+                × (lock.now.opening.setup.1 ≤ 4000000) }
+            ensures { IsDone lock.entry.now caller result }
+        { work_on(rt, alloc, lock, caller, &mut theirs, gate) },
+        &mut || -> Result<Watched, OutOfMemory>
+            requires { (IsSync R.row × IsSync G.row) × IsThere mine (IsFirst lock.now (caller + 1))
+                × ((2 ≤ caller) × (caller < observer) × (observer ≤ 64))
+                × ((looks ≤ 1000) × (lock.now.opening.setup.1 ≡ quanta) × (quanta ≤ 4000000)) }
+            ensures { IfOk result (IsWatched lock.entry.now.opening.setup.0 lock.entry.now (caller + 1) observer looks) }
+        {
+            crew_from(
+                rt,
+                alloc,
+                lock,
+                &mut mine,
+                caller + 1,
+                observer,
+                quanta,
+                looks,
+                gate,
+            )
+        },
+    );
+    let watched = watched?;
+    Ok(Watched {
+        lead: watched.lead,
+        observer: lock.join_seats(watched.observer, done),
+        sights: watched.sights,
+    })
+}
+
+// Commits one quantum more, where one is left.
+fn advance_one(alloc: Global, book: &mut Book, by: u32) -> Result<(), OutOfMemory>
+    requires by { (1 ≤ by) × (by ≤ 64) }
+    ensures gives { MayGive by book.old book.new }
+    ensures more { OnOk result (min (book.old.committed + 1) book.old.quanta ≤ book.new.committed) }
+{
+    counted_advance::<Brand>(alloc, book, by, Blank::new(1))
+}
+
+// The same, with an account of the instructions that only contracts see.
+fn counted_advance<L: Ledger>(
+    alloc: Global,
+    book: &mut Book,
+    by: u32,
+    blank: Blank,
+) -> Result<(), OutOfMemory>
+    requires by { (1 ≤ by) × (by ≤ 64) }
+    requires name { blank.name ≡ L.name }
+    requires parts { blank.parts ≡ L.parts }
+    requires some { 0 < L.parts }
+    ensures gives { MayGive by book.old book.new }
+    ensures more { OnOk result (min (book.old.committed + 1) book.old.quanta ≤ book.new.committed) }
+{
+    let mut steps = Steps::<L>::start(blank);
+    match book.advance(alloc, by, &mut steps) {
+        Advanced::Committed | Advanced::Ended => Ok(()),
+        Advanced::OutOfMemory => Err(AllocError),
+    }
+}
+
+// Commits the quanta that are left.
+fn commit_all(alloc: Global, book: &mut Book, by: u32) -> Result<(), OutOfMemory>
+    requires by { (1 ≤ by) × (by ≤ 64) }
+    ensures gives { MayGive by book.old book.new }
+    ensures all { OnOk result (book.new.committed ≡ book.old.quanta) }
+{
+    for _ in book.committed()..book.quanta() {
+        advance_one(alloc, book, by)?;
+    }
+    let _committed = book.committed();
+    Ok(())
+}
+
+// Takes a turn, and commits the quanta that are left in it.
+fn end_run<R: Wait>(
+    rt: &R,
+    alloc: Global,
+    lock: &TurnLock<Book>,
+    seat: Seat,
+) -> Result<Seat, OutOfMemory>
+    requires lock { seat.lock ≡ lock.now }
+    requires room { seat.turns < 2 ^ 40 }
+    ensures worked { IfOk result (HasWorked 1 seat) }
+    ensures seen { IfOk result (λ s. s.seen ≡ lock.now.opening.setup.1) }
+{
+    let caller = seat.caller();
+    let (turn, mut book) = lock.take(rt, seat);
+    let all = commit_all(alloc, &mut book, caller);
+    let seat = lock.give(turn, book);
+    all?;
+    Ok(seat)
+}
+
+// Commits what is left, looks once more, and gives the book.
+fn see_end<R: Wait>(
+    rt: &R,
+    alloc: Global,
+    lock: TurnLock<Book>,
+    observer: u32,
+    looks: u64,
+    watched: Watched,
+) -> Result<(Sights, Book), OutOfMemory>
+    requires callers { (2 ≤ observer) × (observer ≤ 64) }
+    requires watched { IsWatched lock.opening.setup.0 lock 2 observer looks watched }
+    requires few { lock.opening.setup.1 ≤ 4000000 }
+    ensures sights { IfOk result (λ r. AreSights lock.opening.setup.0 lock.opening.setup.1 looks r.0.sights) }
+    ensures book { IfOk result (λ r. world_of r.1 ≡ serial lock.opening.setup.0 lock.opening.setup.1) }
+{
+    let lead = end_run(rt, alloc, &lock, watched.lead)?;
+    let seat = lock.join_seats(watched.observer, lead);
+    let (seat, sight) = look(rt, alloc, &lock, seat);
+    let book = lock.close(seat);
+    let _committed = book.committed();
+    let mut sights = watched.sights;
+    sights.add(sight?);
+    Ok((sights, book))
+}
+
+// The sights, and the report of the book's world.
+fn told(alloc: Global, sights: &Sights, book: &Book) -> Result<Text, OutOfMemory>
+    ensures { IfOk result (λ text. text ≡ sights_text sights.now.sights ++ report (world_of book.now)) }
+{
+    let mut text = sights_text(alloc, sights)?;
+    let report = report(alloc, book.world())?;
+    text.items.extend_from_slice(&report.items)?;
+    Ok(text)
+}
+
+/// Runs the setup with this many workers and an observer beside them, which looks so often at the world behind the turn
+/// lock. Gives what it saw, what it saw of the end, and the report. The calling thread is worker 1; it commits what the
+/// workers left.
+pub fn watch<R: Threads + Wait + Sync, G: Gate + Sync>(
+    rt: &R,
+    alloc: Global,
+    gate: &G,
+    setup: Setup,
+    quanta: u64,
+    workers: u32,
+    looks: u64,
+) -> Result<Text, OutOfMemory>
+    requires quanta { (1 ≤ quanta) × (quanta ≤ 4000000) }
+    requires workers { (1 ≤ workers) × (workers ≤ 63) }
+    requires looks { looks ≤ 1000 }
+    ensures { IfOk result (IsWatchText setup quanta looks) }
+{
+    let book = Book::begin(alloc, setup, quanta, 2 * workers)?;
+    let Ok((lock, first)) = TurnLock::of(alloc, book) else {
+        return Err(AllocError);
+    };
+    let mut first = Some(first);
+    let watched = crew_from(
+        rt,
+        alloc,
+        &lock,
+        &mut first,
+        2,
+        workers + 1,
+        quanta,
+        looks,
+        gate,
+    )?;
+    let (sights, book) = see_end(rt, alloc, lock, workers + 1, looks, watched)?;
+    told(alloc, &sights, &book)
+}
