@@ -12,7 +12,7 @@ use Rattle.tierra_model.specs.Living.{one_of}
 use Rattle.tierra_model.specs.Report.{processor_text}
 use Rattle.tierra_model.specs.World.{Genotype, World}
 use Rattle.genotyper.specs.Names.{name_text}
-use Rattle.world_core.specs.StateBytes.{state_bytes}
+use Rattle.world_state.specs.StateBytes.{state_bytes}
 use Rattle.report_text.specs.Report.{report}
 
 -- ---- the living

@@ -259,3 +259,30 @@ fn a_full_soup_goes_on(rt: HostRuntime) -> Result<(), Fail> {
     }
     Ok(())
 }
+
+// A soup that is soon full, in which everything mutates.
+const MUTATING: &str =
+    "soup_size = 500\nsave_at = 1\nback_rate = 40\ncopy_rate = 50\nflaw_rate = 100";
+
+/// Whether the world's bytes give a world with the same bytes.
+fn is_restored(alloc: Global, world: &World) -> Result<bool, Fail> {
+    let bytes = world.state_bytes(alloc)?;
+    match World::restore(alloc, world.settings(), &bytes.items)? {
+        Some(again) => Ok(again.state_bytes(alloc)?.items.as_slice() == bytes.items.as_slice()),
+        None => Ok(false),
+    }
+}
+
+/// The same of the world after so many quanta.
+fn is_restored_after(alloc: Global, quanta: u16) -> Result<bool, Fail> {
+    let world = run_ancestor(alloc, MUTATING, quanta)?;
+    is_restored(alloc, &world)
+}
+
+#[test]
+fn worlds_along_a_run_are_restored(rt: HostRuntime) -> Result<(), Fail> {
+    for part in 0..200 {
+        assert!(rt; is_restored_after(rt.alloc(), 3 * part)?, "{part}");
+    }
+    Ok(())
+}

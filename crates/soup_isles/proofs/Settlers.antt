@@ -17,7 +17,7 @@ use Rattle.tierra_model.proofs.Each.{Each, all_from_each}
 use Rattle.tierra_model.proofs.Living.{find-without}
 use Rattle.tierra_model.proofs.Owners.{ids_of-without, is_here-times, sum_of-without, times_in-filter_other, times_in-filter_same}
 use Rattle.tierra_model.proofs.WithinQuantum.{code_of_block}
-use Rattle.world_core.proofs.SlicerLength.{length-slicer}
+use Rattle.world_state.proofs.SlicerLength.{length-slicer}
 use Rattle.world_core.proofs.Within.{of_one}
 use Rattle.soup_isles.specs.Isles.{settler, settlers}
 

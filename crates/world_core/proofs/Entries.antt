@@ -19,7 +19,7 @@ entry errors id = (id, errors id)
 abbrev errors_among : List Creature → ℕ → ℕ
 errors_among living id = (one_of living id).errors
 
-ids-entries : (errors : ℕ → ℕ) (ids : List ℕ) → map (λ x. x.0) (map (entry errors) ids) ≡ ids
+pub ids-entries : (errors : ℕ → ℕ) (ids : List ℕ) → map (λ x. x.0) (map (entry errors) ids) ≡ ids
 ids-entries errors [] = refl
 ids-entries errors (x ∷ xs) = ap (λ (l : List ℕ). x ∷ l) (ids-entries errors xs)
 

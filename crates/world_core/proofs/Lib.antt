@@ -1,4 +1,3 @@
-pub mod BirthNumbers
 pub mod Entries
 pub mod Ownership
 pub mod Tying
@@ -15,5 +14,5 @@ pub mod NothingHappens
 pub mod Grouped
 pub mod GroupsInRange
 pub mod Runs
-pub mod SlicerLength
 pub mod BytesGrow
+pub mod Built

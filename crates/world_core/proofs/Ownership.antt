@@ -28,7 +28,7 @@ free-same n xs ys e = λ i. runs_of n (λ p. not (owned-same xs ys p (e p) i))
 
 -- ---- a block is taken
 
-more_owned : (b : Bool) (m n : ℕ) → n ≡ m + one_if b → nat_lt 0 n ≡ (nat_lt 0 m || b)
+pub more_owned : (b : Bool) (m n : ℕ) → n ≡ m + one_if b → nat_lt 0 n ≡ (nat_lt 0 m || b)
 more_owned true m n e = grind (arith, nat_tests)
 more_owned false m n e = grind (arith, nat_tests)
 

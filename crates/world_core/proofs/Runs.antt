@@ -5,9 +5,10 @@ use Rattle.std.proofs.lemmas.List.Elements.{All-drop, All-from_get_or, All-map, 
 use Rattle.std.proofs.lemmas.List.Folds.{drop_split}
 use Rattle.std.specs.Prelude.{All, slice_range}
 use Rattle.tierra_model.specs.World.{Genotype, Saving as ModelSaving}
-use Rattle.world_core.specs.declared.genes.Saving.{Saving}
+use Rattle.world_state.specs.declared.saving.Saving.{Saving}
 use Rattle.world_core.specs.Groups.{group_of, grouped}
-use Rattle.world_core.specs.Savings.{AreOf, BeginsAnew, no_saving, quantum_of, saving_of, savings_of}
+use Rattle.world_core.specs.Savings.{AreOf, BeginsAnew, no_saving, quantum_of}
+use Rattle.world_state.specs.Savings.{saving_of, savings_of}
 use Rattle.world_core.proofs.Grouped.{BeginsOther, IsOf, run-grouped}
 
 begins : (q : ℕ) (ys : List Saving) → (0 < length ys → (get_or ys 0 no_saving).quantum ≢ q) → BeginsOther q (savings_of ys)

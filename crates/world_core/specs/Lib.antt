@@ -6,4 +6,3 @@ pub mod Tied
 pub mod Starting
 pub mod Prepared
 pub mod Groups
-pub mod StateBytes

@@ -3,21 +3,13 @@
 ghost use Rattle.std.specs.Prelude.{◌≡◌, ◌+◌, ◌<◌, ◌≤◌, ◌^◌, [], All, OnOk, length};
 ghost use Rattle.tierra_model.specs.Individuals.{savings_after, with_effort_of, with_individual};
 ghost use Rattle.tierra_model.specs.Ranges.{IsCode};
-ghost use Rattle.world_core.specs.Savings.{savings_of};
+ghost use Rattle.world_state.specs.Savings.{savings_of};
 
 use genotyper::Genotypes;
 use std::alloc::Global;
 use std::marker::Model;
 use tierra_model::{Code, Effort, OutOfMemory};
-
-/// A genotype that was saved, in which quantum, and the efforts that it had then.
-#[derive(Clone, Copy, Drop, Debug)]
-pub(crate) struct Saving {
-    pub(crate) genotype: u64,
-    pub(crate) quantum: u64,
-    pub(crate) first_effort: Option<Effort>,
-    pub(crate) second_effort: Option<Effort>,
-}
+use world_state::Saving;
 
 /// The genotypes in the order of first birth, and the saved ones in the order of saving.
 #[derive(Drop)]
@@ -28,7 +20,8 @@ pub(crate) struct Genes {
 
 impl Model for Genes {
     ghost use Rattle.std.specs.Prelude.{◌-◌, min, vec_capacity, vec_len};
-    ghost use Rattle.world_core.specs.Savings.{GenesFields, savings_of};
+    ghost use Rattle.world_core.specs.Savings.{GenesFields};
+    ghost use Rattle.world_state.specs.Savings.{savings_of};
 
     ghost Value = { GenesFields };
 
@@ -49,6 +42,14 @@ impl Genes {
             genotypes: Genotypes::new(alloc),
             saved: Vec::new(alloc),
         }
+    }
+
+    /// These genotypes, and what was saved of them.
+    pub(crate) fn of(genotypes: Genotypes, saved: Vec<Saving>) -> Genes
+        ensures genotypes { result.genotypes ≡ genotypes.genotypes }
+        ensures saved { result.saved ≡ savings_of saved.items }
+    {
+        Genes { genotypes, saved }
     }
 
     /// Takes the memory that as many births may need.

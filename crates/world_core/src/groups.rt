@@ -6,14 +6,16 @@ ghost use Rattle.tierra_model.specs.Groups.{GroupFields, IsGroup};
 ghost use Rattle.tierra_model.specs.Sound.{ParentsBelow};
 ghost use Rattle.tierra_model.specs.World.{genotype_at};
 ghost use Rattle.world_core.specs.Groups.{group_of, grouped};
-ghost use Rattle.world_core.specs.Savings.{AreOf, BeginsAnew, quantum_of, saving_of, savings_of};
+ghost use Rattle.world_core.specs.Savings.{AreOf, BeginsAnew, quantum_of};
+ghost use Rattle.world_state.specs.Savings.{saving_of, savings_of};
 
-use crate::genes::{Genes, Saving};
+use crate::genes::Genes;
 use crate::running::Running;
-use crate::world::{World, copied};
+use crate::world::World;
 use genotyper::Genotypes;
 use std::alloc::Global;
 use tierra_model::{Form, Group, Groups, Name, OutOfMemory, Saved, SavedList};
+use world_state::{Saving, copied};
 
 impl World {
     /// The groups of the genebank from place `k` on, as this world has them.

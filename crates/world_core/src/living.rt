@@ -1,6 +1,6 @@
 //! The living, in the order of their birth numbers.
 
-ghost use Rattle.std.specs.Prelude.{◌≡◌, ◌==◌, ◌+◌, ◌<◌, ◌≤◌, ℕ, [], ◌∷◌, ◌++◌, IfNone, IfSome, OnErr, OnOk, find, length, option_copied};
+ghost use Rattle.std.specs.Prelude.{◌≡◌, ◌==◌, ◌+◌, ◌<◌, ◌≤◌, ℕ, [], ◌∷◌, ◌++◌, All, IfNone, IfSome, OnErr, OnOk, find, length, option_copied};
 ghost use Rattle.std.specs.List.{AllWithin, HoldsAt};
 ghost use Rattle.std.specs.List.Sorted.{IsNonDecreasingBy};
 ghost use Rattle.std.specs.VecDeque.{deque_len, deque_capacity};
@@ -8,7 +8,9 @@ ghost use Rattle.tierra_model.specs.declared.creatures.Creature.{Creature};
 ghost use Rattle.tierra_model.specs.Counting.{times_in};
 ghost use Rattle.tierra_model.specs.Living.{ids_of, with_record, without};
 ghost use Rattle.tierra_model.specs.Sound.{Ordered};
+ghost use Rattle.world_state.specs.Restoring.{HasWords};
 
+use crate::fitting::creature_fits;
 use crate::places::Places;
 use std::alloc::Global;
 use std::collections::VecDeque;
@@ -70,6 +72,15 @@ impl Living {
     {
         let place = place_of(&self.creatures, &self.places, id)?;
         Some(&self.creatures[place])
+    }
+
+    /// The words of each creature fit their types.
+    pub(crate) fn words_fit(&self)
+        ensures { All HasWords self.now.creatures }
+    {
+        for place in 0..self.creatures.len() {
+            creature_fits(&self.creatures[place]);
+        }
     }
 
     /// Puts a record in the place of the one of its creature.

@@ -1,10 +1,13 @@
 //! The living and their two queues.
 
-ghost use Rattle.std.specs.Prelude.{◌≡◌, ◌==◌, ◌+◌, ◌<◌, ◌≤◌, ◌^◌, ℕ, [], ◌∷◌, ◌++◌, OnOk, filter, find, length, not, option_copied, slice_get, slice_index};
+ghost use Rattle.std.specs.Prelude.{◌≡◌, ◌==◌, ◌+◌, ◌<◌, ◌≤◌, ◌^◌, ℕ, [], ◌∷◌, ◌++◌, All, OnOk, filter, find, length, not, option_copied, slice_get, slice_index};
 ghost use Rattle.tierra_model.specs.Counting.{times_in};
 ghost use Rattle.tierra_model.specs.Living.{ids_of, one_of, with_record, without};
 ghost use Rattle.tierra_model.specs.Queue.{error_move, good_move, place_of_first_other, rotation};
 ghost use Rattle.tierra_model.specs.World.{first_of};
+ghost use Rattle.reaper_queue.specs.Queue.{ids_of as entry_ids};
+ghost use Rattle.world_state.specs.Restoring.{HasWords};
+ghost use Rattle.world_core.specs.Population.{entries_of};
 
 use crate::living::Living;
 use reaper_queue::Reaper;
@@ -52,6 +55,20 @@ impl Population {
         }
     }
 
+    /// These living in these queues.
+    pub(crate) fn of(living: Living, slicer: Slicer, reaper: Reaper) -> Population
+        requires { reaper.entries ≡ entries_of living.creatures (entry_ids reaper.entries) }
+        ensures living { result.living ≡ living.creatures }
+        ensures slicer { result.slicer ≡ slicer.ids }
+        ensures reaper { result.reaper ≡ entry_ids reaper.entries }
+    {
+        Population {
+            living,
+            slicer,
+            reaper,
+        }
+    }
+
     /// Takes the memory that as many births may need.
     pub(crate) fn reserve(&mut self, more: u32) -> Result<(), OutOfMemory>
         ensures living { self.new.living ≡ self.old.living }
@@ -63,6 +80,13 @@ impl Population {
         self.living.reserve(more)?;
         self.slicer.reserve(more)?;
         self.reaper.reserve(more)
+    }
+
+    /// The words of each creature fit their types.
+    pub(crate) fn words_fit(&self)
+        ensures { All HasWords self.now.living }
+    {
+        self.living.words_fit();
     }
 
     /// The record of a creature, if it lives.

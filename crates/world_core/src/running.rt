@@ -14,8 +14,10 @@ ghost use Rattle.tierra_model.specs.World.{front, put};
 ghost use Rattle.tierra_model.specs.Yard.{standing};
 ghost use Rattle.census.specs.Census.{living_of};
 ghost use Rattle.tierra_model.specs.Serial.{empty_world, overwrite};
+ghost use Rattle.world_state.specs.Restoring.{HasWords};
 ghost use Rattle.world_core.specs.Starting.{CanInoculate, inoculated};
 ghost use Rattle.world_core.specs.Running.{IsRunning, KeepsReady, can_be_set, number_with};
+ghost use Rattle.world_core.specs.Tied.{AreTied};
 
 use crate::genes::Genes;
 use crate::population::Population;
@@ -73,8 +75,56 @@ impl Model for Running {
     ghost invariant = { λ r. AreTied r.settings.soup_size r.population.living r.blocks r.census };
 }
 
+/// How many were born and died, who is born next, and how many quanta have ended.
+#[derive(Clone, Copy, Drop)]
+pub(crate) struct Counts {
+    pub(crate) births: u64,
+    pub(crate) deaths: u64,
+    pub(crate) next_birth: u64,
+    pub(crate) quanta: u64,
+}
+
 impl Running {
     // ---- the start
+
+    /// A world of these parts.
+    pub(crate) fn of(
+        settings: Settings,
+        soup: Soup,
+        population: Population,
+        blocks: Blocks,
+        genes: Genes,
+        census: Census,
+        counts: Counts,
+    ) -> Running
+        requires { AreTied settings.soup_size population.living blocks census }
+        ensures { result.world ≡ record {
+          settings = settings;
+          soup = soup.cells;
+          living = population.living;
+          slicer = population.slicer;
+          reaper = population.reaper;
+          genotypes = genes.genotypes;
+          saved = genes.saved;
+          births = counts.births;
+          deaths = counts.deaths;
+          next_birth = counts.next_birth;
+          quanta = counts.quanta;
+        } }
+    {
+        Running {
+            settings,
+            soup,
+            population,
+            blocks,
+            genes,
+            census,
+            births: counts.births,
+            deaths: counts.deaths,
+            next_birth: counts.next_birth,
+            quanta: counts.quanta,
+        }
+    }
 
     /// A soup of cells that are all 0, and nobody in it.
     pub(crate) fn empty(alloc: Global, settings: &Settings) -> Result<Running, OutOfMemory>
@@ -195,6 +245,13 @@ impl Running {
         ensures saved { result.now.saved ≡ self.now.world.saved }
     {
         &self.genes
+    }
+
+    /// The words of each creature fit their types.
+    pub(crate) fn words_fit(&self)
+        ensures { All HasWords self.now.world.living }
+    {
+        self.population.words_fit();
     }
 
     /// How many of each genotype live.

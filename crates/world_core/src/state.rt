@@ -6,28 +6,32 @@ ghost use Rattle.tierra_model.specs.Living.{one_of};
 ghost use Rattle.tierra_model.specs.Ranges.{IsCode};
 ghost use Rattle.tierra_model.specs.Sound.{IsSound, ParentsBelow};
 ghost use Rattle.tierra_model.specs.World.{genotype_at};
-ghost use Rattle.world_core.specs.Savings.{saving_of, savings_of};
-ghost use Rattle.world_core.specs.StateBytes.{block_bytes, body_bytes, count_bytes, counts_bytes, creature_bytes, daughter_bytes, effort_bytes, eight, four, genotype_bytes, genotypes_bytes, living_bytes, parent_bytes, processor_bytes, reaper_bytes, register_bytes, registers_bytes, saving_bytes, savings_bytes, soup_bytes, stack_bytes, state_bytes};
+ghost use Rattle.world_state.specs.Restoring.{AreBytesOf};
+ghost use Rattle.world_state.specs.Savings.{saving_of, savings_of};
+ghost use Rattle.world_state.specs.StateBytes.{block_bytes, body_bytes, count_bytes, counts_bytes, creature_bytes, daughter_bytes, effort_bytes, eight, four, genotype_bytes, genotypes_bytes, living_bytes, parent_bytes, processor_bytes, reaper_bytes, register_bytes, registers_bytes, saving_bytes, savings_bytes, soup_bytes, stack_bytes, state_bytes};
 
-use crate::genes::Saving;
+use crate::fitting::world_fits;
 use crate::running::Running;
 use crate::world::World;
 use genotyper::Genotypes;
 use std::alloc::Global;
 use tierra_model::{Block, Code, Creature, Effort, OutOfMemory};
+use world_state::Saving;
 
 impl World {
     /// All that the world is but its settings, as bytes.
     pub fn state_bytes(&self, alloc: Global) -> Result<Code, OutOfMemory>
-        ensures { IfOk result (λ code. code ≡ state_bytes self.now.world) }
+        ensures bytes { IfOk result (λ code. code ≡ state_bytes self.now.world) }
+        ensures world { IfOk result (λ code. AreBytesOf self.now.world.settings code self.now.world) }
     {
         let mut items = Vec::new(alloc);
         push_state(&mut items, &self.running)?;
+        world_fits(&self.running);
         Ok(Code { items })
     }
 }
 
-#[tactic(auto, unfolding(crate::specs::StateBytes::state_bytes))]
+#[tactic(auto, unfolding(world_state::specs::StateBytes::state_bytes))]
 fn push_state(out: &mut Vec<u8>, running: &Running) -> Result<(), OutOfMemory>
     requires { IsSound running.now.world }
     ensures { OnOk result (out.new.items ≡ out.old.items ++ state_bytes running.now.world) }
@@ -42,7 +46,7 @@ fn push_state(out: &mut Vec<u8>, running: &Running) -> Result<(), OutOfMemory>
 
 // ---- the soup and the counts
 
-#[tactic(auto, unfolding(crate::specs::StateBytes::soup_bytes))]
+#[tactic(auto, unfolding(world_state::specs::StateBytes::soup_bytes))]
 fn push_soup(out: &mut Vec<u8>, running: &Running) -> Result<(), OutOfMemory>
     requires { length running.now.world.soup ≡ running.now.world.settings.soup_size }
     ensures { OnOk result (out.new.items ≡ out.old.items ++ soup_bytes running.now.world) }
@@ -62,7 +66,7 @@ fn push_cells(out: &mut Vec<u8>, running: &Running, size: u32) -> Result<(), Out
     Ok(())
 }
 
-#[tactic(auto, unfolding(crate::specs::StateBytes::counts_bytes))]
+#[tactic(auto, unfolding(world_state::specs::StateBytes::counts_bytes))]
 fn push_counts(out: &mut Vec<u8>, running: &Running) -> Result<(), OutOfMemory>
     ensures { OnOk result (out.new.items ≡ out.old.items ++ counts_bytes running.now.world) }
 {
@@ -77,7 +81,7 @@ fn push_counts(out: &mut Vec<u8>, running: &Running) -> Result<(), OutOfMemory>
 
 // ---- the living
 
-#[tactic(auto, unfolding(crate::specs::StateBytes::living_bytes))]
+#[tactic(auto, unfolding(world_state::specs::StateBytes::living_bytes))]
 fn push_living(out: &mut Vec<u8>, running: &Running) -> Result<(), OutOfMemory>
     requires { IsSound running.now.world }
     ensures { OnOk result (out.new.items ≡ out.old.items ++ living_bytes running.now.world) }
@@ -101,7 +105,7 @@ fn push_creatures(out: &mut Vec<u8>, running: &Running, count: u32) -> Result<()
     Ok(())
 }
 
-#[tactic(auto, unfolding(crate::specs::StateBytes::creature_bytes))]
+#[tactic(auto, unfolding(world_state::specs::StateBytes::creature_bytes))]
 fn push_creature(out: &mut Vec<u8>, creature: &Creature) -> Result<(), OutOfMemory>
     ensures { OnOk result (out.new.items ≡ out.old.items ++ creature_bytes creature.now) }
 {
@@ -110,7 +114,7 @@ fn push_creature(out: &mut Vec<u8>, creature: &Creature) -> Result<(), OutOfMemo
     push_creature_counts(out, creature)
 }
 
-#[tactic(auto, unfolding(crate::specs::StateBytes::body_bytes))]
+#[tactic(auto, unfolding(world_state::specs::StateBytes::body_bytes))]
 fn push_body(out: &mut Vec<u8>, creature: &Creature) -> Result<(), OutOfMemory>
     ensures { OnOk result (out.new.items ≡ out.old.items ++ body_bytes creature.now) }
 {
@@ -120,7 +124,7 @@ fn push_body(out: &mut Vec<u8>, creature: &Creature) -> Result<(), OutOfMemory>
     push_eight(out, creature.moved)
 }
 
-#[tactic(auto, unfolding(crate::specs::StateBytes::processor_bytes))]
+#[tactic(auto, unfolding(world_state::specs::StateBytes::processor_bytes))]
 fn push_processor(out: &mut Vec<u8>, creature: &Creature) -> Result<(), OutOfMemory>
     ensures { OnOk result (out.new.items ≡ out.old.items ++ processor_bytes creature.now) }
 {
@@ -129,7 +133,7 @@ fn push_processor(out: &mut Vec<u8>, creature: &Creature) -> Result<(), OutOfMem
     push_stack(out, creature)
 }
 
-#[tactic(auto, unfolding(crate::specs::StateBytes::registers_bytes))]
+#[tactic(auto, unfolding(world_state::specs::StateBytes::registers_bytes))]
 fn push_registers(out: &mut Vec<u8>, creature: &Creature) -> Result<(), OutOfMemory>
     ensures { OnOk result (out.new.items ≡ out.old.items ++ registers_bytes creature.now) }
 {
@@ -137,7 +141,7 @@ fn push_registers(out: &mut Vec<u8>, creature: &Creature) -> Result<(), OutOfMem
     push_two_registers(out, creature.cx, creature.dx)
 }
 
-#[tactic(auto, unfolding(crate::specs::StateBytes::stack_bytes))]
+#[tactic(auto, unfolding(world_state::specs::StateBytes::stack_bytes))]
 fn push_stack(out: &mut Vec<u8>, creature: &Creature) -> Result<(), OutOfMemory>
     ensures { OnOk result (out.new.items ≡ out.old.items ++ stack_bytes creature.now) }
 {
@@ -147,7 +151,7 @@ fn push_stack(out: &mut Vec<u8>, creature: &Creature) -> Result<(), OutOfMemory>
     Ok(())
 }
 
-#[tactic(auto, unfolding(crate::specs::StateBytes::count_bytes))]
+#[tactic(auto, unfolding(world_state::specs::StateBytes::count_bytes))]
 fn push_creature_counts(out: &mut Vec<u8>, creature: &Creature) -> Result<(), OutOfMemory>
     ensures { OnOk result (out.new.items ≡ out.old.items ++ count_bytes creature.now) }
 {
@@ -166,7 +170,7 @@ fn push_words(out: &mut Vec<u8>, words: &[i32]) -> Result<(), OutOfMemory>
     Ok(())
 }
 
-#[tactic(auto, unfolding(crate::specs::StateBytes::block_bytes))]
+#[tactic(auto, unfolding(world_state::specs::StateBytes::block_bytes))]
 fn push_block(out: &mut Vec<u8>, block: Block) -> Result<(), OutOfMemory>
     ensures { OnOk result (out.new.items ≡ out.old.items ++ block_bytes block) }
 {
@@ -174,7 +178,7 @@ fn push_block(out: &mut Vec<u8>, block: Block) -> Result<(), OutOfMemory>
     push_four(out, block.size)
 }
 
-#[tactic(auto, unfolding(crate::specs::StateBytes::daughter_bytes))]
+#[tactic(auto, unfolding(world_state::specs::StateBytes::daughter_bytes))]
 fn push_daughter(out: &mut Vec<u8>, daughter: Option<Block>) -> Result<(), OutOfMemory>
     ensures { OnOk result (out.new.items ≡ out.old.items ++ daughter_bytes daughter) }
 {
@@ -184,7 +188,7 @@ fn push_daughter(out: &mut Vec<u8>, daughter: Option<Block>) -> Result<(), OutOf
     }
 }
 
-#[tactic(auto, unfolding(crate::specs::StateBytes::reaper_bytes))]
+#[tactic(auto, unfolding(world_state::specs::StateBytes::reaper_bytes))]
 fn push_reaper(out: &mut Vec<u8>, running: &Running) -> Result<(), OutOfMemory>
     requires { IsSound running.now.world }
     ensures { OnOk result (out.new.items ≡ out.old.items ++ reaper_bytes running.now.world) }
@@ -197,7 +201,7 @@ fn push_reaper(out: &mut Vec<u8>, running: &Running) -> Result<(), OutOfMemory>
 
 // ---- the genotypes and the savings
 
-#[tactic(auto, unfolding(crate::specs::StateBytes::genotypes_bytes))]
+#[tactic(auto, unfolding(world_state::specs::StateBytes::genotypes_bytes))]
 fn push_genotypes(out: &mut Vec<u8>, running: &Running) -> Result<(), OutOfMemory>
     requires { IsSound running.now.world }
     ensures { OnOk result (out.new.items ≡ out.old.items ++ genotypes_bytes running.now.world) }
@@ -219,7 +223,7 @@ fn push_each_genotype(out: &mut Vec<u8>, genotypes: &Genotypes) -> Result<(), Ou
     Ok(())
 }
 
-#[tactic(auto, unfolding(crate::specs::StateBytes::genotype_bytes))]
+#[tactic(auto, unfolding(world_state::specs::StateBytes::genotype_bytes))]
 fn push_genotype(out: &mut Vec<u8>, genotypes: &Genotypes, number: u64) -> Result<(), OutOfMemory>
     requires known { number < length genotypes.now.genotypes }
     requires short { length (genotype_at genotypes.now.genotypes number).code < 2 ^ 32 }
@@ -242,7 +246,7 @@ fn push_code(out: &mut Vec<u8>, code: &Code) -> Result<(), OutOfMemory>
     out.extend_from_slice(&code.items)
 }
 
-#[tactic(auto, unfolding(crate::specs::StateBytes::parent_bytes))]
+#[tactic(auto, unfolding(world_state::specs::StateBytes::parent_bytes))]
 fn push_parent(out: &mut Vec<u8>, parent: Option<u64>) -> Result<(), OutOfMemory>
     requires { IfSome parent (λ p. p < 2 ^ 60) }
     ensures { OnOk result (out.new.items ≡ out.old.items ++ parent_bytes parent) }
@@ -253,7 +257,7 @@ fn push_parent(out: &mut Vec<u8>, parent: Option<u64>) -> Result<(), OutOfMemory
     }
 }
 
-#[tactic(auto, unfolding(crate::specs::StateBytes::savings_bytes))]
+#[tactic(auto, unfolding(world_state::specs::StateBytes::savings_bytes))]
 fn push_savings(out: &mut Vec<u8>, running: &Running) -> Result<(), OutOfMemory>
     ensures { OnOk result (out.new.items ≡ out.old.items ++ savings_bytes running.now.world) }
 {
@@ -270,7 +274,7 @@ fn push_each_saving(out: &mut Vec<u8>, saved: &[Saving]) -> Result<(), OutOfMemo
     Ok(())
 }
 
-#[tactic(auto, unfolding(crate::specs::StateBytes::saving_bytes))]
+#[tactic(auto, unfolding(world_state::specs::StateBytes::saving_bytes))]
 fn push_saving(out: &mut Vec<u8>, saving: Saving) -> Result<(), OutOfMemory>
     ensures { OnOk result (out.new.items ≡ out.old.items ++ saving_bytes (saving_of saving)) }
 {
@@ -278,7 +282,7 @@ fn push_saving(out: &mut Vec<u8>, saving: Saving) -> Result<(), OutOfMemory>
     push_efforts(out, saving.first_effort, saving.second_effort)
 }
 
-#[tactic(auto, unfolding(crate::specs::StateBytes::effort_bytes))]
+#[tactic(auto, unfolding(world_state::specs::StateBytes::effort_bytes))]
 fn push_effort(out: &mut Vec<u8>, effort: Option<Effort>) -> Result<(), OutOfMemory>
     ensures { OnOk result (out.new.items ≡ out.old.items ++ effort_bytes effort) }
 {
@@ -301,7 +305,7 @@ fn push_efforts(
 
 // ---- numbers
 
-#[tactic(auto, unfolding(crate::specs::StateBytes::register_bytes))]
+#[tactic(auto, unfolding(world_state::specs::StateBytes::register_bytes))]
 fn push_register(out: &mut Vec<u8>, value: i32) -> Result<(), OutOfMemory>
     ensures { OnOk result (out.new.items ≡ out.old.items ++ register_bytes value) }
 {

@@ -9,6 +9,7 @@ use std::test::Fail;
 use tierra_model::{
     Code, EventList, Form, Inoculum, Name, Now, OutOfMemory, SeedList, Setup, grow_setup,
 };
+use world_state::{Stop, draft_of};
 
 fn two_cells(alloc: Global) -> Result<Code, OutOfMemory>
     ensures code { IfOk result (λ code. IsCode code) }
@@ -152,5 +153,171 @@ fn a_genotype_of_the_start_is_in_group_0(rt: HostRuntime) -> Result<(), Fail> {
         }
     }
     assert_eq!(rt; world.groups_from(alloc, 1)?.items.len(), 0);
+    Ok(())
+}
+
+#[test]
+fn a_small_world_is_read_from_its_bytes(rt: HostRuntime) -> Result<(), Fail> {
+    let alloc = rt.alloc();
+    let setup = small_setup(alloc)?;
+    let world = World::start(alloc, &setup)?;
+    let state = world.state_bytes(alloc)?;
+    let bytes = state.items.as_slice();
+    let read = draft_of(alloc, &setup.settings, bytes).ok();
+    assert!(rt; read.is_some());
+    if let Some(draft) = read {
+        assert_eq!(rt;
+            (draft.quanta, draft.births, draft.deaths, draft.next_birth),
+            (0, 0, 0, 2)
+        );
+        assert_eq!(rt; draft.cells.len(), 100);
+        assert_eq!(rt;
+            (draft.cells.get(5).copied(), draft.cells.get(6).copied()),
+            (Some(9), Some(26))
+        );
+        assert_eq!(rt; draft.living.first().copied(), Some(*world.front()));
+        assert_eq!(rt; draft.slicer.as_slice(), [1].as_slice());
+        assert_eq!(rt; draft.reaper.as_slice(), [1].as_slice());
+        assert_eq!(rt; draft.founds.first().map(|found| found.total), Some(1));
+        assert_eq!(rt; draft.saved.first().map(|saving| saving.genotype), Some(0));
+    }
+    for len in 0..bytes.len() {
+        let cut = draft_of(alloc, &setup.settings, &bytes[..len]);
+        assert_eq!(rt; cut.err(), Some(Stop::NoWorld));
+    }
+    Ok(())
+}
+
+fn small_state(alloc: Global) -> Result<Code, OutOfMemory> {
+    World::start(alloc, &small_setup(alloc)?)?.state_bytes(alloc)
+}
+
+// Whether the bytes are those of a world of the small settings.
+fn restores(alloc: Global, bytes: &[u8]) -> Result<bool, OutOfMemory> {
+    let settings = small_setup(alloc)?.settings;
+    let restored = World::restore(alloc, &settings, bytes)?;
+    Ok(restored.is_some())
+}
+
+#[test]
+fn a_small_world_is_restored(rt: HostRuntime) -> Result<(), Fail> {
+    let alloc = rt.alloc();
+    let settings = small_setup(alloc)?.settings;
+    let state = small_state(alloc)?;
+    match World::restore(alloc, &settings, &state.items)? {
+        Some(world) => {
+            assert_eq!(rt; (world.quanta(), world.births(), world.deaths()), (0, 0, 0));
+            assert_eq!(rt;
+                (world.living(), world.filled(), world.free_len()),
+                (1, 2, 2)
+            );
+            assert_eq!(rt; (world.census().living(0), world.kept()), (1, 1));
+            assert_eq!(rt; (world.cell(5), world.cell(6)), (9, 26));
+        }
+        None => assert!(rt; false),
+    }
+    Ok(())
+}
+
+#[test]
+fn a_part_of_the_bytes_is_no_world(rt: HostRuntime) -> Result<(), Fail> {
+    let alloc = rt.alloc();
+    let state = small_state(alloc)?;
+    let bytes = state.items.as_slice();
+    for len in 0..bytes.len() {
+        assert!(rt; !restores(alloc, &bytes[..len])?);
+    }
+    Ok(())
+}
+
+#[test]
+fn longer_bytes_are_no_world(rt: HostRuntime) -> Result<(), Fail> {
+    let alloc = rt.alloc();
+    let mut state = small_state(alloc)?;
+    state.items.push(0)?;
+    assert!(rt; !restores(alloc, &state.items)?);
+    Ok(())
+}
+
+#[test]
+fn bytes_are_of_one_soup_size(rt: HostRuntime) -> Result<(), Fail> {
+    let alloc = rt.alloc();
+    let state = small_state(alloc)?;
+    let mut settings = small_setup(alloc)?.settings;
+    settings.soup_size = 101;
+    let restored = World::restore(alloc, &settings, &state.items)?;
+    assert!(rt; restored.is_none());
+    Ok(())
+}
+
+// The bytes of the small world with one of them changed.
+fn changed(alloc: Global, place: usize, value: u8) -> Result<Vec<u8>, OutOfMemory> {
+    let mut items = small_state(alloc)?.items;
+    if let Some(byte) = items.get_mut(place) {
+        *byte = value;
+    }
+    Ok(items)
+}
+
+// Whether a world that is restored from the changed bytes tells them again, or nothing where they are of no world.
+fn told_again(alloc: Global, place: usize, value: u8) -> Result<Option<bool>, OutOfMemory> {
+    let settings = small_setup(alloc)?.settings;
+    let bytes = changed(alloc, place, value)?;
+    match World::restore(alloc, &settings, &bytes)? {
+        Some(world) => {
+            let again = world.state_bytes(alloc)?;
+            Ok(Some(again.items.as_slice() == bytes.as_slice()))
+        }
+        None => Ok(None),
+    }
+}
+
+#[test]
+fn a_changed_byte_is_refused_or_told_again(rt: HostRuntime) -> Result<(), Fail> {
+    let alloc = rt.alloc();
+    let rows = [
+        (9, 31, true), // a cell
+        (9, 32, false), // no code
+        (111, 1, true), // the quanta
+        (119, 1, true), // the births
+        (119, 2, false), // as many as the next birth number
+        (127, 1, false), // the deaths, which the next birth number tells
+        (135, 3, false), // the next birth number
+        (139, 2, false), // more live than are told
+        (147, 2, false), // a birth number that the reaper list has not
+        (151, 99, false), // a block past the end
+        (155, 0, false), // and one of no cell
+        (163, 5, true), // a daughter block before the creature's own
+        (163, 6, false), // and one that shares a cell with it
+        (191, 100, false), // an ip past the end
+        (195, 7, true), // a word of the stack
+        (235, 10, false), // its place on the stack
+        (244, 3, true), // the errors
+        (252, 1, false), // a genotype that there is not
+        (276, 2, false), // somebody else in the reaper list
+        (290, 32, false), // no code of a genotype
+        (298, 1, false), // a genotype that is its own parent
+        (314, 0, false), // too few ever had what is saved
+        (314, 2, true), //
+        (322, 1, true), // a first effort
+        (330, 1, false), // an effort of no instruction
+        (354, 0, false), // bytes behind the last saving
+        (362, 1, false), // a genotype saved that there is not
+        (370, 1, false), // saved in a quantum to come
+    ];
+    for (place, value, sound) in rows {
+        let wanted = if sound { Some(true) } else { None };
+        assert_eq!(rt; told_again(alloc, place, value)?, wanted);
+    }
+    Ok(())
+}
+
+#[test]
+fn no_byte_is_changed_unseen(rt: HostRuntime) -> Result<(), Fail> {
+    for place in 0..403 {
+        for value in [0, 1, 128, 255] {
+            assert!(rt; told_again(rt.alloc(), place, value)? != Some(false));
+        }
+    }
     Ok(())
 }

@@ -19,6 +19,7 @@ use std::marker::Model;
 use tierra_model::{
     Block, Code, Creature, Effort, Inoculum, Now, OutOfMemory, SeedList, Settings, Setup, Standing,
 };
+use world_state::copied;
 
 /// A sound world, in which no quantum runs.
 #[derive(Drop)]
@@ -215,12 +216,4 @@ fn inoculate_all(
         running.inoculate(inoculum.at, code)?;
     }
     Ok(())
-}
-
-// A code of its own.
-pub(crate) fn copied(alloc: Global, code: &Code) -> Result<Code, OutOfMemory>
-    ensures { IfOk result (λ copy. copy ≡ code.now) }
-{
-    let items = code.items.to_vec(alloc)?;
-    Ok(Code { items })
 }

@@ -3,7 +3,7 @@ use Rattle.std.proofs.lemmas.List.{take_all}
 use Rattle.std.specs.List.{flat_map}
 use Rattle.tierra_model.specs.Living.{one_of}
 use Rattle.world_core.proofs.BytesGrow.{bytes-more}
-use Rattle.world_core.proofs.SlicerLength.{length-slicer}
+use Rattle.world_state.proofs.SlicerLength.{length-slicer}
 use Rattle.report_text.specs.Dump.{creature_line}
 use Rattle.report_text.proofs.world_dump.add_creatures.Goals as goal
 

@@ -4,7 +4,7 @@ use Rattle.tierra_model.specs.declared.creatures.Creature.{Creature}
 use Rattle.tierra_model.specs.declared.setups.Inoculum.{Inoculum}
 use Rattle.tierra_model.specs.Living.{one_of}
 use Rattle.tierra_model.specs.Setups.{IsSetup}
-use Rattle.world_core.proofs.SlicerLength.{length-slicer}
+use Rattle.world_state.proofs.SlicerLength.{length-slicer}
 use Rattle.soup_isles.specs.Isles.{settler, settlers}
 use Rattle.soup_isles.proofs.Settlers.{settlers-setup}
 use Rattle.soup_isles.proofs.settling.settlers.Goals as goal

@@ -1,10 +1,11 @@
-use Rattle.std.proofs.Common.{◌≡◌, ◌∙◌, ◌-◌, ◌<◌, List, ◌∷◌, ◌++◌, ap, drop, length, subst, sym}
+use Rattle.std.proofs.Common.{◌≡◌, ◌∙◌, ◌<◌, List, ◌∷◌, ◌++◌, ap, drop, length, subst, sym}
 use Rattle.std.proofs.lemmas.List.Elements.{All-head, All-tail}
 use Rattle.std.specs.Prelude.{All, slice_range}
 use Rattle.tierra_model.specs.Groups.{GroupFields, IsGroup}
 use Rattle.tierra_model.specs.World.{Saving as ModelSaving}
 use Rattle.world_core.specs.Groups.{group_of, grouped}
-use Rattle.world_core.specs.Savings.{quantum_of, savings_of}
+use Rattle.world_core.specs.Savings.{quantum_of}
+use Rattle.world_state.specs.Savings.{savings_of}
 use Rattle.world_core.proofs.Runs.{first-run, part-known}
 use Rattle.world_core.proofs.groups.all_groups.Goals as goal
 use Rattle.world_core.proofs.groups.all_groups.Goals.{After-run_end-end}

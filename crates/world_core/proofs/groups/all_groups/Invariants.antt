@@ -2,7 +2,7 @@ use Rattle.std.proofs.Common.{◌≡◌, ◌++◌, ◌-◌, ◌≤◌, drop, len
 use Rattle.std.specs.Prelude.{All}
 use Rattle.tierra_model.specs.Groups.{IsGroup}
 use Rattle.world_core.specs.Groups.{grouped}
-use Rattle.world_core.specs.Savings.{savings_of}
+use Rattle.world_state.specs.Savings.{savings_of}
 use Rattle.world_core.proofs.groups.all_groups.Given as goal
 
 abbrev pub invariant-loop-at : goal.invariant-loop-at

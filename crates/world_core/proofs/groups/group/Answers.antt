@@ -1,7 +1,8 @@
 use Rattle.std.proofs.Common.{◌<◌, length, subst}
 use Rattle.std.proofs.lemmas.List.{get_or-map, length-map}
 use Rattle.tierra_model.specs.World.{Saving as ModelSaving}
-use Rattle.world_core.specs.Savings.{no_saving, saving_of, savings_of}
+use Rattle.world_core.specs.Savings.{no_saving}
+use Rattle.world_state.specs.Savings.{saving_of, savings_of}
 use Rattle.world_core.proofs.groups.group.Goals as goal
 
 pub saved-requires-clause-known : goal.saved-requires-clause-known

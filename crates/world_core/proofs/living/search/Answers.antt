@@ -3,7 +3,7 @@ use Rattle.std.proofs.lemmas.List.{get_or_read}
 use Rattle.tierra_model.specs.declared.creatures.Creature.{Creature}
 use Rattle.tierra_model.specs.Counting.{times_in}
 use Rattle.tierra_model.specs.Living.{ids_of, nobody}
-use Rattle.world_core.proofs.BirthNumbers.{ids-rise, none-around}
+use Rattle.world_state.proofs.BirthNumbers.{ids-rise, none-around}
 use Rattle.world_core.proofs.living.search.Goals as goal
 use Rattle.world_core.proofs.living.search.Goals.{else-place-len-via-then-place-len+else-index-id, else-place-len-via-else-place-len}
 

@@ -1,9 +1,9 @@
-use Rattle.std.proofs.Common.{◌≡◌, ◌∙◌, ◌+◌, ◌<◌, ◌++◌, ℕ, List, Some, ap, append_assoc, arith, get_or, length, map, sym, take}
+use Rattle.std.proofs.Common.{◌≡◌, ◌∙◌, ◌<◌, ◌++◌, ℕ, List, Some, ap, append_assoc, arith, get_or, length, map, sym, take}
 use Rattle.std.proofs.lemmas.Option.{slice_get-get_or}
 use Rattle.std.specs.List.{flat_map}
 use Rattle.std.specs.Prelude.{option_map}
 use Rattle.tierra_model.specs.Living.{one_of}
-use Rattle.world_core.specs.StateBytes.{creature_bytes}
+use Rattle.world_state.specs.StateBytes.{creature_bytes}
 use Rattle.world_core.proofs.BytesGrow.{bytes-more}
 use Rattle.world_core.proofs.state.push_creatures.Goals as goal
 

@@ -1,7 +1,7 @@
 use Rattle.std.proofs.Common.{◌≡◌, ◌++◌, map, take}
 use Rattle.std.specs.List.{flat_map}
 use Rattle.tierra_model.specs.Living.{one_of}
-use Rattle.world_core.specs.StateBytes.{creature_bytes}
+use Rattle.world_state.specs.StateBytes.{creature_bytes}
 use Rattle.world_core.proofs.state.push_creatures.Given as goal
 
 abbrev pub invariant-loop-k : goal.invariant-loop-k

@@ -1,6 +1,6 @@
 use Rattle.std.proofs.Common.{◌≡◌, ◌++◌, take}
 use Rattle.std.specs.List.{flat_map}
-use Rattle.world_core.specs.StateBytes.{genotype_bytes}
+use Rattle.world_state.specs.StateBytes.{genotype_bytes}
 use Rattle.world_core.proofs.state.push_each_genotype.Given as goal
 
 abbrev pub invariant-loop-number : goal.invariant-loop-number

@@ -1,6 +1,6 @@
 use Rattle.std.proofs.Common.{◌≡◌, ◌++◌, take}
 use Rattle.std.specs.List.{flat_map}
-use Rattle.world_core.specs.StateBytes.{register_bytes}
+use Rattle.world_state.specs.StateBytes.{register_bytes}
 use Rattle.world_core.proofs.state.push_words.Given as goal
 
 abbrev pub invariant-loop-word : goal.invariant-loop-word

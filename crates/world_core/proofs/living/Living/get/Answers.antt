@@ -1,7 +1,7 @@
 use Rattle.std.proofs.Common.{◌≡◌, ◌==◌, ◌∙◌, Some, None, ap, subst, sym}
 use Rattle.std.specs.Prelude.{find}
 use Rattle.world_core.specs.Living.{LivingFields}
-use Rattle.world_core.proofs.BirthNumbers.{found-at, none-found}
+use Rattle.world_state.proofs.BirthNumbers.{found-at, none-found}
 use Rattle.world_core.proofs.living.Living.get.Goals as goal
 
 pub returns-in_err-place : goal.returns-in_err-place

@@ -3,7 +3,7 @@ use Rattle.tierra_model.specs.Living.{ids_of, with_record}
 use Rattle.tierra_model.specs.Sound.{Ordered}
 use Rattle.tierra_model.proofs.Owners.{ids_of-with}
 use Rattle.world_core.specs.Living.{LivingFields}
-use Rattle.world_core.proofs.BirthNumbers.{put-at}
+use Rattle.world_state.proofs.BirthNumbers.{put-at}
 use Rattle.world_core.proofs.living.Living.put.Goals as goal
 
 pub invariant_of-self : goal.invariant_of-self

@@ -5,7 +5,7 @@ use Rattle.tierra_model.specs.Sound.{Ordered}
 use Rattle.tierra_model.proofs.BirthOrder.{ordered-filter}
 use Rattle.tierra_model.proofs.Owners.{ids_of-without}
 use Rattle.world_core.specs.Living.{LivingFields}
-use Rattle.world_core.proofs.BirthNumbers.{removed-at}
+use Rattle.world_state.proofs.BirthNumbers.{removed-at}
 use Rattle.world_core.proofs.living.Living.remove.Goals as goal
 use Rattle.world_core.proofs.living.Living.remove.Goals.{After-remove}
 

@@ -1,0 +1,135 @@
+use Rattle.std.proofs.Common.{◌≡◌, ◌∙◌, ◌<◌, ◌≤◌, ◌^◌, List, None, Some, ap, arith, length, refl, subst, sym, ℕ}
+use Rattle.std.specs.Prelude.{All, IfNone, IfSome, IsSome, not}
+use Rattle.tierra_model.specs.declared.creatures.Creature.{Creature}
+use Rattle.tierra_model.specs.Counting.{times_in}
+use Rattle.tierra_model.specs.FreeList.{runs_of}
+use Rattle.tierra_model.specs.Living.{ids_of, one_of}
+use Rattle.tierra_model.specs.Ranges.{IsCode}
+use Rattle.tierra_model.specs.Room.{is_owned}
+use Rattle.tierra_model.specs.Sound.{IsPlaced, IsSound, Ordered, owners, times_coded}
+use Rattle.tierra_model.specs.World.{World}
+use Rattle.reaper_queue.specs.Queue.{ids_of as entry_ids}
+use Rattle.world_state.specs.declared.fields.Found.{Found}
+use Rattle.world_state.specs.contracts.draft.Draft.{the_view}
+use Rattle.world_core.specs.Population.{entries_of}
+use Rattle.world_state.specs.Reading.{genotypes_of}
+use Rattle.world_core.specs.Running.{WorldFields, number_with}
+use Rattle.world_core.proofs.Entries.{ids-entries}
+use Rattle.world_state.proofs.Joined.{codes-written, world-from}
+use Rattle.world_core.proofs.building.world_from.Goals as goal
+
+pub soup_from-requires-clause-size : goal.soup_from-requires-clause-size
+soup_from-requires-clause-size c =
+    let s : IsSound (the_view c.draft.inside) = subst IsSound (sym c.draft.view_is) c.requires in
+    subst (λ (xs : List ℕ). length xs ≡ c.draft.inside.settings.soup_size) (sym c.deref.ensures.value) s.cells
+
+pub soup_from-requires-clause-codes : goal.soup_from-requires-clause-codes
+soup_from-requires-clause-codes c =
+    let s : IsSound (the_view c.draft.inside) = subst IsSound (sym c.draft.view_is) c.requires in
+    subst (All (λ v. v < 32)) (sym c.deref.ensures.value) s.codes
+
+pub living_from-requires : goal.living_from-requires
+living_from-requires c =
+    let s : IsSound (the_view c.draft.inside) = subst IsSound (sym c.draft.view_is) c.requires in
+    subst (λ (xs : List Creature). Ordered 1 (ids_of xs)) (sym c.deref-2.ensures.value) s.ordered
+
+pub slicer_from-requires : goal.slicer_from-requires
+slicer_from-requires c id =
+    let s : IsSound (the_view c.draft.inside) = subst IsSound (sym c.draft.view_is) c.requires in
+    subst (λ (xs : List ℕ). times_in xs id ≤ 1) (sym c.deref-3.ensures.value) (omega (arith, s.slicer id, s.once id))
+
+pub reaper_from-requires-clause-once : goal.reaper_from-requires-clause-once
+reaper_from-requires-clause-once c id =
+    let s : IsSound (the_view c.draft.inside) = subst IsSound (sym c.draft.view_is) c.requires in
+    subst (λ (xs : List ℕ). times_in xs id ≤ 1) (sym c.deref-4.ensures.value) (omega (arith, s.reaper id, s.once id))
+
+pub reaper_from-requires-clause-here : goal.reaper_from-requires-clause-here
+reaper_from-requires-clause-here c id =
+    let s : IsSound (the_view c.draft.inside) = subst IsSound (sym c.draft.view_is) c.requires in
+    ap (λ (xs : List ℕ). times_in xs id) c.deref-4.ensures.value ∙ s.reaper id
+    ∙ ap (λ (xs : List Creature). times_in (ids_of xs) id) (sym (c.in_ok-living.ensures ∙ c.deref-2.ensures.value))
+
+pub blocks_from-requires-clause-placed : goal.blocks_from-requires-clause-placed
+blocks_from-requires-clause-placed c =
+    let s : IsSound (the_view c.draft.inside) = subst IsSound (sym c.draft.view_is) c.requires in
+    subst (All (IsPlaced c.draft.inside.settings.soup_size)) (sym c.deref-5.ensures.value) s.placed
+
+pub blocks_from-requires-clause-apart : goal.blocks_from-requires-clause-apart
+blocks_from-requires-clause-apart c p =
+    let s : IsSound (the_view c.draft.inside) = subst IsSound (sym c.draft.view_is) c.requires in
+    subst (λ (xs : List Creature). owners xs p ≤ 1) (sym c.deref-5.ensures.value) (s.apart p)
+
+pub census_from-requires : goal.census_from-requires
+census_from-requires c =
+    let s : IsSound (the_view c.draft.inside) = subst IsSound (sym c.draft.view_is) c.requires in
+    subst (λ (xs : List Creature). length xs < 2 ^ 60) (sym c.deref-6.ensures.value)
+    (omega (arith, s.living_and_dead, s.next_birth, s.quanta))
+
+pub genotypes_from-requires : goal.genotypes_from-requires
+genotypes_from-requires c =
+    let s : IsSound (the_view c.draft.inside) = subst IsSound (sym c.draft.view_is) c.requires in
+    subst (All (λ (f : Found). IsCode f.code)) (sym c.deref-7.ensures.value) (codes-written c.draft.inside.founds.items s.written)
+
+pub unwrap-genotypes-requires : goal.unwrap-genotypes-requires
+unwrap-genotypes-requires c =
+    let s : IsSound (the_view c.draft.inside) = subst IsSound (sym c.draft.view_is) c.requires in
+    let once : (code : List ℕ) → times_coded (genotypes_of c.deref-7.result.now) code ≤ 1
+    = λ code. subst (λ (fs : List Found). times_coded (genotypes_of fs) code ≤ 1) (sym c.deref-7.ensures.value) (s.coded_once code) in
+    elim c.in_ok-found.found as (λ o. IfNone o (((code : List ℕ) → times_coded (genotypes_of c.deref-7.result.now) code ≤ 1) → ⊥) → IsSome o) [
+      | None ↦ (λ no. absurd (no once))
+      | Some g ↦ (λ no. refl)
+    ] c.in_ok-found.ensures.none
+
+-- the reaper queue shows the errors of the living
+pub of-population-requires : goal.of-population-requires
+of-population-requires c =
+    let living = c.in_ok-living.living.creatures in
+    let ids = c.deref-4.result.now in
+    let is = c.in_ok-reaper.ensures in
+    is ∙ ap (entries_of living) (sym (ap entry_ids is ∙ ids-entries (λ id. (one_of living id).errors) ids))
+
+pub of-running-requires : goal.of-running-requires
+of-running-requires c =
+    let living = c.of-population.ensures.living ∙ c.in_ok-living.ensures ∙ c.deref-2.ensures.value in
+    let n = c.draft.inside.settings.soup_size in
+    record {
+      size = c.in_ok-blocks.ensures.size;
+      free = c.in_ok-blocks.ensures.free
+          ∙ ap (λ (l : List Creature). runs_of n (λ p. not (is_owned l p))) (c.deref-5.ensures.value ∙ sym living);
+      counts = λ g. c.in_ok-census.ensures g ∙ ap (λ (l : List Creature). number_with l g) (c.deref-6.ensures.value ∙ sym living);
+    }
+
+-- the world that is put together is the one that was told
+pub finish-requires : goal.finish-requires
+finish-requires c =
+    let d = c.draft.inside in
+    let shown = c.in_ok-reaper.ensures in
+    let ids = c.deref-4.result.now in
+    let genotypes = subst (λ o. IfSome o (λ g. g.genotypes ≡ genotypes_of c.deref-7.result.now)) c.unwrap-genotypes.ensures c.in_ok-found.ensures.some in
+    let same : c.of-running.result.world ≡ the_view d = world-from c.of-running.result.world (the_view d) (ap (λ (w : World). w.settings) c.of-running.ensures)
+    (ap (λ (w : World). w.soup) c.of-running.ensures ∙ c.in_ok-soup.ensures ∙ c.deref.ensures.value)
+    (ap (λ (w : World). w.living) c.of-running.ensures ∙ c.of-population.ensures.living ∙ c.in_ok-living.ensures ∙ c.deref-2.ensures.value)
+    (ap (λ (w : World). w.slicer) c.of-running.ensures ∙ c.of-population.ensures.slicer ∙ c.in_ok-slicer.ensures ∙ c.deref-3.ensures.value)
+    (ap (λ (w : World). w.reaper) c.of-running.ensures ∙ c.of-population.ensures.reaper ∙ ap entry_ids shown
+    ∙ ids-entries (λ id. (one_of c.in_ok-living.living.creatures id).errors) ids ∙ c.deref-4.ensures.value)
+    (ap (λ (w : World). w.genotypes) c.of-running.ensures ∙ c.of-genes.ensures.genotypes ∙ genotypes ∙ ap genotypes_of c.deref-7.ensures.value)
+    (ap (λ (w : World). w.saved) c.of-running.ensures ∙ c.of-genes.ensures.saved) (ap (λ (w : World). w.births) c.of-running.ensures) (ap (λ (w : World). w.deaths) c.of-running.ensures)
+    (ap (λ (w : World). w.next_birth) c.of-running.ensures) (ap (λ (w : World). w.quanta) c.of-running.ensures) in
+    subst IsSound (sym (same ∙ c.draft.view_is)) c.requires
+
+pub returns : goal.returns
+returns c =
+    let d = c.draft.inside in
+    let shown = c.in_ok-reaper.ensures in
+    let ids = c.deref-4.result.now in
+    let genotypes = subst (λ o. IfSome o (λ g. g.genotypes ≡ genotypes_of c.deref-7.result.now)) c.unwrap-genotypes.ensures c.in_ok-found.ensures.some in
+    let same : c.of-running.result.world ≡ the_view d = world-from c.of-running.result.world (the_view d) (ap (λ (w : World). w.settings) c.of-running.ensures)
+    (ap (λ (w : World). w.soup) c.of-running.ensures ∙ c.in_ok-soup.ensures ∙ c.deref.ensures.value)
+    (ap (λ (w : World). w.living) c.of-running.ensures ∙ c.of-population.ensures.living ∙ c.in_ok-living.ensures ∙ c.deref-2.ensures.value)
+    (ap (λ (w : World). w.slicer) c.of-running.ensures ∙ c.of-population.ensures.slicer ∙ c.in_ok-slicer.ensures ∙ c.deref-3.ensures.value)
+    (ap (λ (w : World). w.reaper) c.of-running.ensures ∙ c.of-population.ensures.reaper ∙ ap entry_ids shown
+    ∙ ids-entries (λ id. (one_of c.in_ok-living.living.creatures id).errors) ids ∙ c.deref-4.ensures.value)
+    (ap (λ (w : World). w.genotypes) c.of-running.ensures ∙ c.of-genes.ensures.genotypes ∙ genotypes ∙ ap genotypes_of c.deref-7.ensures.value)
+    (ap (λ (w : World). w.saved) c.of-running.ensures ∙ c.of-genes.ensures.saved) (ap (λ (w : World). w.births) c.of-running.ensures) (ap (λ (w : World). w.deaths) c.of-running.ensures)
+    (ap (λ (w : World). w.next_birth) c.of-running.ensures) (ap (λ (w : World). w.quanta) c.of-running.ensures) in
+    ap (λ (f : WorldFields). f.world) c.finish.ensures ∙ same ∙ c.draft.view_is

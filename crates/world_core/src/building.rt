@@ -1,0 +1,163 @@
+//! A world put together from what its bytes tell.
+
+ghost use Rattle.std.specs.Prelude.{◌≡◌, ◌≤◌, ◌<◌, ◌^◌, ℕ, All, IfOk, length, nat_lt, not};
+ghost use Rattle.tierra_model.specs.Counting.{times_in};
+ghost use Rattle.tierra_model.specs.FreeList.{runs_of};
+ghost use Rattle.tierra_model.specs.Living.{ids_of, one_of};
+ghost use Rattle.tierra_model.specs.Ranges.{IsBlock};
+ghost use Rattle.tierra_model.specs.Room.{is_owned};
+ghost use Rattle.tierra_model.specs.Sound.{IsPlaced, IsSound, Ordered, owners};
+ghost use Rattle.census.specs.Census.{living_of};
+ghost use Rattle.world_state.specs.Checks.{covers};
+ghost use Rattle.world_core.specs.Population.{entries_of};
+ghost use Rattle.world_core.specs.Running.{number_with};
+
+use crate::genes::Genes;
+use crate::living::Living;
+use crate::population::Population;
+use crate::running::{Counts, Running};
+use crate::world::World;
+use block_alloc::Blocks;
+use census::Census;
+use reaper_queue::Reaper;
+use slicer_queue::Slicer;
+use soup_cells::Soup;
+use std::alloc::Global;
+use tierra_model::{Block, Creature, OutOfMemory};
+use world_state::{Draft, blocks_in, genotypes_from};
+
+/// The world that was drafted, which is sound.
+pub(crate) fn world_from(alloc: Global, draft: Draft) -> Result<World, OutOfMemory>
+    requires { IsSound draft }
+    ensures { IfOk result (λ w. w.world ≡ draft) }
+{
+    let size = draft.settings.soup_size;
+    let soup = soup_from(alloc, size, &draft.cells)?;
+    let living = living_from(alloc, &draft.living)?;
+    let slicer = slicer_from(alloc, &draft.slicer)?;
+    let reaper = reaper_from(alloc, &living, &draft.reaper)?;
+    let blocks = blocks_from(alloc, size, &draft.living)?;
+    let census = census_from(alloc, &draft.living)?;
+    let found = genotypes_from(alloc, &draft.founds)?;
+    let genotypes = found.unwrap();
+    let population = Population::of(living, slicer, reaper);
+    let genes = Genes::of(genotypes, draft.saved);
+    let counts = Counts {
+        births: draft.births,
+        deaths: draft.deaths,
+        next_birth: draft.next_birth,
+        quanta: draft.quanta,
+    };
+    let running = Running::of(
+        draft.settings,
+        soup,
+        population,
+        blocks,
+        genes,
+        census,
+        counts,
+    );
+    Ok(running.finish())
+}
+
+fn soup_from(alloc: Global, size: u32, cells: &[u8]) -> Result<Soup, OutOfMemory>
+    requires size { length cells.now ≡ size }
+    requires codes { All (λ v. v < 32) cells.now }
+    ensures { IfOk result (λ s. s.cells ≡ cells.now) }
+{
+    let mut soup = Soup::new(alloc, size)?;
+    for (at, value) in cells.iter().enumerate() {
+        let place = at as u32;
+        soup.ready(place)?;
+        soup.set(place, *value);
+    }
+    Ok(soup)
+}
+
+// ---- the living and their queues
+
+fn living_from(alloc: Global, creatures: &[Creature]) -> Result<Living, OutOfMemory>
+    requires { Ordered 1 (ids_of creatures.now) }
+    ensures { IfOk result (λ l. l.creatures ≡ creatures.now) }
+{
+    let mut living = Living::new(alloc);
+    for creature in creatures {
+        living.reserve(1)?;
+        living.enter(*creature);
+    }
+    Ok(living)
+}
+
+fn slicer_from(alloc: Global, ids: &[u64]) -> Result<Slicer, OutOfMemory>
+    requires { (id : ℕ) → times_in ids.now id ≤ 1 }
+    ensures { IfOk result (λ s. s.ids ≡ ids.now) }
+{
+    let mut slicer = Slicer::new(alloc);
+    for id in ids {
+        slicer.reserve(1)?;
+        slicer.enter(*id);
+    }
+    Ok(slicer)
+}
+
+// The reaper queue, in which each has the errors of its creature.
+fn reaper_from(alloc: Global, living: &Living, ids: &[u64]) -> Result<Reaper, OutOfMemory>
+    requires once { (id : ℕ) → times_in ids.now id ≤ 1 }
+    requires here { (id : ℕ) → times_in ids.now id ≡ times_in (ids_of living.now.creatures) id }
+    ensures { IfOk result (λ r. r.entries ≡ entries_of living.now.creatures ids.now) }
+{
+    let mut reaper = Reaper::new(alloc);
+    for id in ids {
+        let errors = errors_of(living, *id);
+        reaper.reserve(1)?;
+        reaper.enter_with(*id, errors);
+    }
+    Ok(reaper)
+}
+
+fn errors_of(living: &Living, id: u64) -> u64
+    requires { 0 < times_in (ids_of living.now.creatures) id }
+    ensures { result ≡ (one_of living.now.creatures id).errors }
+{
+    living.get(id).unwrap().errors
+}
+
+// ---- what is counted of the living
+
+fn blocks_from(alloc: Global, size: u32, living: &[Creature]) -> Result<Blocks, OutOfMemory>
+    requires placed { All (IsPlaced size) living.now }
+    requires apart { (p : ℕ) → owners living.now p ≤ 1 }
+    ensures size { IfOk result (λ b. b.size ≡ size) }
+    ensures free { IfOk result (λ b. b.free ≡ runs_of size (λ p. not (is_owned living.now p))) }
+{
+    let blocks = blocks_in(alloc, living)?;
+    let space = space_without(alloc, size, &blocks)?;
+    Ok(space)
+}
+
+// A soup of which these blocks are taken.
+fn space_without(alloc: Global, size: u32, blocks: &[Block]) -> Result<Blocks, OutOfMemory>
+    requires lie { All (IsBlock size) blocks.now }
+    requires apart { (p : ℕ) → covers blocks.now p ≤ 1 }
+    ensures size { IfOk result (λ b. b.size ≡ size) }
+    ensures free { IfOk result (λ b. b.free ≡ runs_of size (λ p. not (nat_lt 0 (covers blocks.now p)))) }
+{
+    let mut space = Blocks::new(alloc, size)?;
+    for block in blocks {
+        space.reserve(1)?;
+        space.take(*block);
+    }
+    Ok(space)
+}
+
+fn census_from(alloc: Global, living: &[Creature]) -> Result<Census, OutOfMemory>
+    requires { length living.now < 2 ^ 60 }
+    ensures { IfOk result (λ c. (g : ℕ) → living_of c g ≡ number_with living.now g) }
+{
+    let mut census = Census::new(alloc);
+    for creature in living {
+        census.reserve(1)?;
+        census.born(creature.genotype);
+    }
+    Ok(census)
+}

@@ -1,0 +1,53 @@
+//! A world made again from its bytes.
+
+ghost use Rattle.std.specs.Prelude.{◌≡◌, ◌↔◌, Err, IfNone, IfOk, IfSome, IsTrue};
+ghost use Rattle.world_state.specs.Restoring.{AreBytesOf, AreOfNoWorld};
+ghost use Rattle.world_state.specs.declared.fields.Stop.TheVariants.{NoWorld};
+
+use crate::building::world_from;
+use crate::world::World;
+use std::alloc::{AllocError, Global};
+use tierra_model::{OutOfMemory, Settings};
+use world_state::{Stop, draft_of};
+
+impl World {
+    /// The world of these settings that the bytes tell, where they are all that a sound world is but its settings.
+    pub fn restore(
+        alloc: Global,
+        settings: &Settings,
+        bytes: &[u8],
+    ) -> Result<Option<World>, OutOfMemory>
+        ensures some { IfOk result (λ o. IfSome o (λ w. AreBytesOf settings.now bytes.now w.world)) }
+        ensures none { IfOk result (λ o. IfNone o (AreOfNoWorld settings.now bytes.now)) }
+    {
+        match restored(alloc, settings, bytes) {
+            Ok(world) => Ok(Some(world)),
+            Err(Stop::NoWorld) => Ok(None),
+            Err(Stop::NoMemory) => Err(AllocError),
+        }
+    }
+}
+
+// What is read is told again, so that bytes are taken only as a world writes them.
+fn restored(alloc: Global, settings: &Settings, bytes: &[u8]) -> Result<World, Stop>
+    ensures some { IfOk result (λ w. AreBytesOf settings.now bytes.now w.world) }
+    ensures none { result ≡ Err NoWorld → AreOfNoWorld settings.now bytes.now }
+{
+    let draft = draft_of(alloc, settings, bytes)?;
+    if !draft.is_sound(alloc)? {
+        return Err(Stop::NoWorld);
+    }
+    let world = world_from(alloc, draft)?;
+    if !tells(alloc, &world, bytes)? {
+        return Err(Stop::NoWorld);
+    }
+    Ok(world)
+}
+
+// Whether the bytes are those of the world.
+fn tells(alloc: Global, world: &World, bytes: &[u8]) -> Result<bool, OutOfMemory>
+    ensures { IfOk result (λ same. IsTrue same ↔ AreBytesOf world.now.world.settings bytes.now world.now.world) }
+{
+    let code = world.state_bytes(alloc)?;
+    Ok(code.items.as_slice() == bytes)
+}

@@ -1,0 +1,16 @@
+pub mod BirthNumbers
+pub mod SlicerLength
+pub mod FieldLoop
+pub mod ReadBack
+pub mod FieldsBack
+pub mod LineOrder
+pub mod Told
+pub mod Passing
+pub mod Reaching
+pub mod ApartBlocks
+pub mod Deciding
+pub mod EnteredAgain
+pub mod Joined
+pub mod TypesFit
+pub mod OneWorld
+pub mod Decided

@@ -1,0 +1,8 @@
+use Rattle.std.proofs.Common.{◌≡◌, ◌-◌, length, take}
+use Rattle.world_state.specs.Reading.{list_at, register_at}
+use Rattle.world_state.proofs.FieldLoop.{with_front}
+use Rattle.world_state.proofs.fields.words_of.Given as goal
+
+abbrev pub invariant-loop-k : goal.invariant-loop-k
+invariant-loop-k l =
+    (length l.words ≡ 10) × (with_front (take l.k l.words) (list_at register_at (10 - l.k) l.rest) ≡ list_at register_at 10 l.bytes)

@@ -1,0 +1,133 @@
+-- Tests of a world's parts, each of which says what soundness says of them.
+use Rattle.std.specs.List.{flat_map, list_all}
+use Rattle.std.specs.Prelude.{Bool, List, None, Option, Some, [], false, if◌then◌else◌, length, nat_le, nat_lt, option_to_list, slice_index_or, true, ℕ, ◌&&◌, ◌+◌, ◌==◌, ◌^◌, ◌∷◌}
+use Rattle.tierra_model.specs.declared.creatures.Block.{Block}
+use Rattle.tierra_model.specs.declared.creatures.Creature.{Creature}
+use Rattle.tierra_model.specs.declared.creatures.Effort.{Effort}
+use Rattle.tierra_model.specs.Blocks.{is_in}
+use Rattle.tierra_model.specs.Counting.{one_if, sum_of}
+use Rattle.tierra_model.specs.Individuals.{with_effort_of}
+use Rattle.tierra_model.specs.World.{Genotype}
+use Rattle.world_state.specs.declared.fields.Found.{Found}
+use Rattle.world_state.specs.declared.saving.Saving.{Saving}
+
+abbrev pub is_code_number : ℕ → Bool
+is_code_number v = nat_lt v 32
+
+-- ---- creatures
+
+abbrev pub is_block_in : ℕ → Block → Bool
+is_block_in n b = nat_le 1 b.size && nat_le b.size 20000 && nat_le (b.at + b.size) n
+
+abbrev pub is_daughter_in : ℕ → Option Block → Bool
+is_daughter_in n None = true
+is_daughter_in n (Some b) = is_block_in n b
+
+abbrev pub is_placed : ℕ → Creature → Bool
+is_placed n c = is_block_in n c.own && is_daughter_in n c.daughter
+
+-- the processor's places are in a soup of n cells and on the stack
+abbrev pub has_places : ℕ → Creature → Bool
+has_places n c = nat_lt c.ip n && nat_lt c.sp 10
+
+abbrev pub has_counts : ℕ → Creature → Bool
+has_counts limit c = nat_le c.errors limit && nat_le c.moved limit && nat_le c.ran limit && nat_le c.bred limit
+
+-- ---- genotypes and savings
+
+abbrev pub is_effort : Option Effort → Bool
+is_effort None = true
+is_effort (Some e) = nat_le 1 e.ran
+
+abbrev pub is_code : List ℕ → Bool
+is_code code = nat_le 1 (length code) && nat_le (length code) 20000 && list_all is_code_number code
+
+abbrev pub is_genotype : ℕ → Found → Bool
+is_genotype limit f = is_code f.code && nat_le f.total limit && is_effort f.first_effort && is_effort f.second_effort
+
+abbrev pub is_saving : ℕ → Saving → Bool
+is_saving quanta s = nat_le s.quantum quanta && is_effort s.first_effort && is_effort s.second_effort
+
+-- ---- tests that go along a list, with a state
+
+unfoldable pub passes : {S X : Type 0} → (S → X → Option S) → S → List X → Bool
+passes step s [] = true
+passes step s (x ∷ xs) = elim (step s x) [ None ↦ false | Some t ↦ passes step t xs ]
+
+-- a creature's number is at least what those before it ask, and below the next one
+abbrev pub number_step : ℕ → ℕ → Creature → Option ℕ
+number_step next low c = if nat_le low c.id && nat_lt c.id next then Some (c.id + 1) else None
+
+-- a genotype's parent, if it has one, is before it
+abbrev pub is_parent : ℕ → Option ℕ → Bool
+is_parent k None = true
+is_parent k (Some p) = nat_lt p k
+
+abbrev pub parent_step : ℕ → Found → Option ℕ
+parent_step k f = if is_parent k f.parent then Some (k + 1) else None
+
+-- a saving is not of an earlier quantum
+abbrev pub rising_step : ℕ → Saving → Option ℕ
+rising_step q s = if nat_le q s.quantum then Some s.quantum else None
+
+-- for what is past the end of a list
+abbrev pub no_found : Found
+no_found =
+    record { code = []; parent = None; first_quantum = 0; total = 0; first_effort = None; second_effort = None }
+
+-- whether there ever were so many of genotype k
+abbrev pub reaches : ℕ → List Found → ℕ → Bool
+reaches total founds k = nat_le total (slice_index_or founds k no_found).total
+
+abbrev pub no_saving : Saving
+no_saving = record { genotype = 0; quantum = 0; first_effort = None; second_effort = None }
+
+-- what a saving counts for, in the size of its quantum
+abbrev pub saving_size : List Found → Saving → ℕ
+saving_size founds s = length (slice_index_or founds s.genotype no_found).code + 100
+
+-- what is counted of a saving's quantum with it, after a quantum and what was counted of that
+abbrev pub counted : List Found → ℕ × ℕ → Saving → ℕ
+counted founds run s = (if s.quantum == run.0 then run.1 else 0) + saving_size founds s
+
+-- the savings of a quantum, which follow each other, stay below 2 ^ 30 in all
+abbrev pub size_step : List Found → ℕ × ℕ → Saving → Option (ℕ × ℕ)
+size_step founds run s =
+    if nat_lt (counted founds run s) (2 ^ 30) then Some (s.quantum, counted founds run s) else None
+
+-- ---- blocks
+
+-- the blocks of a creature, and those of all the living
+abbrev pub blocks_of : Creature → List Block
+blocks_of c = c.own ∷ option_to_list c.daughter
+
+abbrev pub blocks_in : List Creature → List Block
+blocks_in living = flat_map blocks_of living
+
+-- how many of the blocks have the cell
+abbrev pub covers : List Block → ℕ → ℕ
+covers bs p = sum_of (λ b. one_if (is_in b p)) bs
+
+-- a block does not begin before the end of those before it
+abbrev pub apart_step : ℕ → Block → Option ℕ
+apart_step end b = if nat_le end b.at then Some (b.at + b.size) else None
+
+-- ---- genotypes put in again
+
+-- genotype k with an effort for daughter number bred, where there is one
+abbrev pub noted : ℕ → ℕ → Option Effort → List Genotype → List Genotype
+noted k bred None gs = gs
+noted k bred (Some e) gs = with_effort_of k bred e gs
+
+-- ---- the lists, each by itself
+
+abbrev pub are_living : ℕ → ℕ → ℕ → ℕ → List Creature → Bool
+are_living n count next limit living =
+    passes (number_step next) 1 living && list_all (is_placed n) living && list_all (has_places n) living
+    && list_all (λ c. nat_lt c.genotype count) living && list_all (has_counts limit) living
+
+abbrev pub are_found : ℕ → List Found → Bool
+are_found limit founds = list_all (is_genotype limit) founds && passes parent_step 0 founds
+
+abbrev pub are_saved : ℕ → List Saving → Bool
+are_saved quanta saved = list_all (is_saving quanta) saved && passes rising_step 0 saved

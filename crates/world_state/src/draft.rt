@@ -1,0 +1,180 @@
+//! A world as its bytes tell it, of which it is not known that it is sound.
+
+ghost use Rattle.std.specs.Prelude.{◌≡◌, Err, IfOk};
+ghost use Rattle.std.specs.List.Sorted.{IsNonDecreasingBy, IsPermutation};
+ghost use Rattle.tierra_model.specs.declared.creatures.Creature.{Creature};
+ghost use Rattle.tierra_model.specs.Living.{ids_of};
+ghost use Rattle.tierra_model.specs.World.{World};
+ghost use Rattle.world_state.specs.Parts.{state_parts};
+ghost use Rattle.world_state.specs.Reading.{Gives, cells_at, founds_at, line_at, savings_at, state_at};
+ghost use Rattle.world_state.specs.Restoring.{AreBytesOf, AreOfNoWorld, FitsTypes};
+ghost use Rattle.world_state.specs.declared.fields.Stop.TheVariants.{NoWorld};
+
+use crate::fields::{Found, Stop, eight_of, four_eights_of, four_of, list_of, sized_of};
+use crate::saving::Saving;
+use std::alloc::Global;
+use std::marker::Model;
+use tierra_model::{Creature, OutOfMemory, Settings};
+
+/// All that makes a world, as it was read. The living are in the order of their birth numbers.
+#[derive(Drop)]
+pub struct Draft {
+    pub settings: Settings,
+    pub cells: Vec<u8>,
+    pub living: Vec<Creature>,
+    pub slicer: Vec<u64>,
+    pub reaper: Vec<u64>,
+    pub founds: Vec<Found>,
+    pub saved: Vec<Saving>,
+    pub quanta: u64,
+    pub births: u64,
+    pub deaths: u64,
+    pub next_birth: u64,
+}
+
+impl Model for Draft {
+    ghost use Rattle.std.specs.Prelude.{◌≡◌, ℕ};
+    ghost use Rattle.std.specs.List.Sorted.{IsNonDecreasingBy};
+    ghost use Rattle.tierra_model.specs.declared.creatures.Creature.{Creature};
+    ghost use Rattle.tierra_model.specs.Counting.{times_in};
+    ghost use Rattle.tierra_model.specs.Living.{ids_of};
+    ghost use Rattle.tierra_model.specs.World.{World};
+    ghost use Rattle.world_state.specs.Reading.{genotypes_of};
+    ghost use Rattle.world_state.specs.Savings.{savings_of};
+
+    ghost Value = { World };
+
+    ghost view = { λ d. record {
+      settings = d.settings;
+      soup = d.cells.items;
+      living = d.living.items;
+      slicer = d.slicer.items;
+      reaper = d.reaper.items;
+      genotypes = genotypes_of d.founds.items;
+      saved = savings_of d.saved.items;
+      births = d.births;
+      deaths = d.deaths;
+      next_birth = d.next_birth;
+      quanta = d.quanta;
+    } };
+
+    ghost invariant = { λ d.
+        IsNonDecreasingBy (λ (c : Creature). c.id) d.living.items
+        × ((id : ℕ) → times_in d.slicer.items id ≡ times_in (ids_of d.living.items) id) };
+}
+
+/// The world that the bytes tell, if they tell any.
+pub fn draft_of(alloc: Global, settings: &Settings, bytes: &[u8]) -> Result<Draft, Stop>
+    ensures settings { IfOk result (λ d. d.settings ≡ settings.now) }
+    ensures fits { IfOk result (λ d. FitsTypes d) }
+    ensures told { IfOk result (λ d. (w : World) → AreBytesOf settings.now bytes.now w → d ≡ w) }
+    ensures none { result ≡ Err NoWorld → AreOfNoWorld settings.now bytes.now }
+{
+    let (parts, _) = parts_of(alloc, bytes)?;
+    let slicer = numbers_of(alloc, &parts.line)?;
+    let living = sorted(parts.line)?;
+    Ok(Draft {
+        settings: *settings,
+        cells: parts.cells,
+        living,
+        slicer,
+        reaper: parts.reaper,
+        founds: parts.founds,
+        saved: parts.saved,
+        quanta: parts.quanta,
+        births: parts.births,
+        deaths: parts.deaths,
+        next_birth: parts.next_birth,
+    })
+}
+
+// What the bytes have, one behind another. The living are in the order of the slicer queue.
+#[derive(Drop)]
+struct Parts {
+    cells: Vec<u8>,
+    quanta: u64,
+    births: u64,
+    deaths: u64,
+    next_birth: u64,
+    line: Vec<Creature>,
+    reaper: Vec<u64>,
+    founds: Vec<Found>,
+    saved: Vec<Saving>,
+}
+
+#[tactic(auto, unfolding(crate::specs::Reading::state_at))]
+fn parts_of(alloc: Global, bytes: &[u8]) -> Result<(Parts, &[u8]), Stop>
+    ensures { Gives (λ x. (state_parts x.0, x.1.now)) result (state_at bytes.now) }
+{
+    let (cells, rest) = cells_of(alloc, bytes)?;
+    let (quanta, births, deaths, next_birth, rest) = four_eights_of(rest)?;
+    let (line, rest) = line_of(alloc, rest)?;
+    let (reaper, rest) = list_of(alloc, line.len() as u64, rest)?;
+    let (founds, rest) = founds_of(alloc, rest)?;
+    let (saved, rest) = savings_of(alloc, rest)?;
+    let parts = Parts {
+        cells,
+        quanta,
+        births,
+        deaths,
+        next_birth,
+        line,
+        reaper,
+        founds,
+        saved,
+    };
+    Ok((parts, rest))
+}
+
+#[tactic(auto, unfolding(crate::specs::Reading::cells_at))]
+fn cells_of(alloc: Global, bytes: &[u8]) -> Result<(Vec<u8>, &[u8]), Stop>
+    ensures { Gives (λ x. (x.0.items, x.1.now)) result (cells_at bytes.now) }
+{
+    let (_, cells, rest) = sized_of(bytes)?;
+    Ok((cells.to_vec(alloc)?, rest))
+}
+
+#[tactic(auto, unfolding(crate::specs::Reading::line_at))]
+fn line_of(alloc: Global, bytes: &[u8]) -> Result<(Vec<Creature>, &[u8]), Stop>
+    ensures { Gives (λ x. (x.0.items, x.1.now)) result (line_at bytes.now) }
+{
+    let (count, rest) = four_of(bytes)?;
+    list_of(alloc, u64::from(count), rest)
+}
+
+#[tactic(auto, unfolding(crate::specs::Reading::founds_at))]
+fn founds_of(alloc: Global, bytes: &[u8]) -> Result<(Vec<Found>, &[u8]), Stop>
+    ensures { Gives (λ x. (x.0.items, x.1.now)) result (founds_at bytes.now) }
+{
+    let (count, rest) = eight_of(bytes)?;
+    list_of(alloc, count, rest)
+}
+
+#[tactic(auto, unfolding(crate::specs::Reading::savings_at))]
+fn savings_of(alloc: Global, bytes: &[u8]) -> Result<(Vec<Saving>, &[u8]), Stop>
+    ensures { Gives (λ x. (x.0.items, x.1.now)) result (savings_at bytes.now) }
+{
+    let (count, rest) = eight_of(bytes)?;
+    list_of(alloc, count, rest)
+}
+
+/// The birth numbers of the creatures, in their order.
+pub fn numbers_of(alloc: Global, line: &[Creature]) -> Result<Vec<u64>, OutOfMemory>
+    ensures { IfOk result (λ numbers. numbers.items ≡ ids_of line.now) }
+{
+    let mut numbers = Vec::with_capacity(alloc, line.len())?;
+    for creature in line {
+        numbers.push(creature.id)?;
+    }
+    Ok(numbers)
+}
+
+// The creatures in the order of their birth numbers.
+fn sorted(line: Vec<Creature>) -> Result<Vec<Creature>, OutOfMemory>
+    ensures same { IfOk result (λ living. IsPermutation line.items living.items) }
+    ensures order { IfOk result (λ living. IsNonDecreasingBy (λ (c : Creature). c.id) living.items) }
+{
+    let mut living = line;
+    living.sort_by_key(|creature| creature.id)?;
+    Ok(living)
+}

@@ -1,0 +1,20 @@
+//! The bytes of a world, what they tell when they are read again, and whether that is a sound world.
+#![tactic(auto)]
+
+mod checks;
+mod copying;
+mod draft;
+mod entering;
+mod fields;
+mod saving;
+mod soundness;
+
+pub use checks::blocks_in;
+pub use copying::copied;
+pub use draft::{Draft, draft_of};
+pub use entering::genotypes_from;
+pub use fields::{Found, Stop};
+pub use saving::Saving;
+
+#[cfg(test)]
+mod tests;
