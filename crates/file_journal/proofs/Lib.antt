@@ -1,0 +1,5 @@
+mod Gates
+mod Making
+mod Pieces
+mod Shapes
+pub mod Times

@@ -1,0 +1,4 @@
+pub mod Creating
+pub mod Files
+pub mod Opening
+pub mod Steps
