@@ -10,7 +10,7 @@ _tierra_options() {
     grow | run | probe) echo '--quanta --workers' ;;
     drill) echo '--quanta --number' ;;
     dump) echo '--quanta' ;;
-    curve) echo '--quanta --every' ;;
+    curve | hold) echo '--quanta --every' ;;
     watch) echo '--quanta --workers --looks' ;;
     isles) echo '--quanta --workers --isles --epochs' ;;
     asm | dis | bank) ;;
@@ -19,7 +19,7 @@ _tierra_options() {
 }
 
 _tierra() {
-  local actions='grow run drill dump curve watch isles bank probe asm dis'
+  local actions='grow run drill dump hold curve watch isles bank probe asm dis'
   local current=${COMP_WORDS[COMP_CWORD]} before=${COMP_WORDS[COMP_CWORD - 1]} action='' word options=''
   case $before in
     --quanta | --workers | --number | --every | --looks | --isles | --epochs | '<') return ;;

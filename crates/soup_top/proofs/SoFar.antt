@@ -17,7 +17,7 @@ use Rattle.soup_top.specs.Keeping.{DiffersAt, FitsAsFar, IsKeeping, IsTaken, IsT
 use Rattle.soup_top.proofs.Growing.{first_is_later, first_to_differ, fits_as_far_as, grown-all, inside_had, taken_fits, taken_grown}
 use Rattle.soup_top.proofs.RunLines.{lines_left, lines_more, lines_so_far}
 use Rattle.soup_top.proofs.Taking.{times_then}
-use Rattle.soup_top.proofs.Telling.{Appended-then, piece_begun, text_before}
+use Rattle.soup_hold.proofs.Telling.{Appended-then, piece_begun, text_before}
 
 module _ {had run : List GroupFields} {k : ℕ} {groups : List GroupFields} {before mid : Option (List ℕ)}
     (so_far : TakenSoFar had run k groups before mid) where

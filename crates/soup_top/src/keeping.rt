@@ -7,7 +7,7 @@ ghost use Rattle.bank_journal.specs.Steps.{IfTold};
 ghost use Rattle.tierra_model.specs.Genebank.{GroupFits};
 ghost use Rattle.tierra_model.specs.Groups.{GroupFields};
 ghost use Rattle.soup_top.specs.Keeping.{DiffersAt, IsTaking, Takes, group_lines};
-ghost use Rattle.soup_top.specs.Stops.{CountsStops, IfDiffers, IfRefused};
+ghost use Rattle.soup_top.specs.Stops.{CountsStops, IfDiffers, IfHoldRefused, IfRefused};
 
 use crate::fits::fits;
 use crate::stop::RunStop;
@@ -23,6 +23,7 @@ fn tell_group<D: Desk>(alloc: Global, desk: &mut D, group: &Group) -> Result<(),
     requires sound { HasNoFault (D.state desk.old) }
     ensures tells { Tells (D.state desk.old) (D.state desk.new) (group_lines group.now) result }
     ensures refused { IfErr result (λ s. IfRefused s (λ f. ⊥)) }
+    ensures of_bank { IfErr result (λ s. IfHoldRefused s (λ f. ⊥)) }
     ensures counts { CountsStops result (D.state desk.new) }
 {
     for saved in group.saved.items.iter() {
@@ -37,6 +38,7 @@ fn append_group<D: Desk>(desk: &mut D, bank: Bank, group: Group) -> Result<Bank,
     requires attached { IsAttached bank (D.state desk.old) }
     ensures appended { IfOk result (Appends bank group (D.state desk.old) (D.state desk.new)) }
     ensures refused { IfErr result (λ s. IfRefused s (λ f. ⊥)) }
+    ensures of_bank { IfErr result (λ s. IfHoldRefused s (λ f. ⊥)) }
     ensures moments { UsesDisk (D.state desk.old) (D.state desk.new) (IfTold (D.state desk.old) (λ file. HasBeforeOrAfter bank.digest bank.groups group)) }
     ensures counts { CountsStops result (D.state desk.new) }
 {

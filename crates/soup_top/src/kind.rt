@@ -22,8 +22,8 @@ pub(crate) enum Kind {
     TellBank,
     /// Runs a soup file, and tells what an observer sees.
     WatchFile,
-    /// The program does not have it.
-    NotBuilt,
+    /// Runs a soup file, and keeps checkpoints.
+    HoldFile,
 }
 
 /// What the action does.
@@ -38,7 +38,7 @@ pub(crate) fn kind_by(action: Action) -> Kind
         Action::Bank => Kind::TellBank,
         Action::Drill => Kind::TellFile,
         Action::Dump => Kind::TellFile,
-        Action::Hold => Kind::NotBuilt,
+        Action::Hold => Kind::HoldFile,
         Action::Curve => Kind::TellFile,
         Action::Probe => Kind::TellBank,
         Action::Watch => Kind::WatchFile,

@@ -10,7 +10,7 @@ ghost use Rattle.report_text.specs.Bank.{saved_lines};
 ghost use Rattle.soup_top.specs.Genebank.{BeginsWith, DiskIsOfHistory, IsFirstToDiffer, IsOfHistory, IsTrueMoment, RefusesRun, digest_of};
 ghost use Rattle.soup_top.specs.Keeping.{Completes, IsKeeping, IsToldAtRefusal};
 ghost use Rattle.soup_top.specs.Sources.{run_groups, run_report, run_text};
-ghost use Rattle.soup_top.specs.Stops.{CountsStops, IfDiffers, IfRefused};
+ghost use Rattle.soup_top.specs.Stops.{CountsStops, IfDiffers, IfHoldRefused, IfRefused};
 
 use crate::hand::{Keeper, Start, keep_book};
 use crate::stop::RunStop;
@@ -30,6 +30,7 @@ fn attach<D: Desk>(alloc: Global, desk: &mut D, setup: &Setup) -> Result<Bank, R
     requires sound { HasNoFault (D.state desk.old) }
     ensures attached { IfOk result (Attaches (digest_of setup.now) (D.state desk.old) (D.state desk.new)) }
     ensures refused { IfErr result (λ s. IfRefused s (Refuses (digest_of setup.now) (D.state desk.old) (D.state desk.new))) }
+    ensures of_bank { IfErr result (λ s. IfHoldRefused s (λ f. ⊥)) }
     ensures kept { OnOk result (IfSome (D.state desk.old).reads (λ file. (IsFresh file → ⊥) → IsUnwritten (D.state desk.old) (D.state desk.new))) }
     ensures quiet { IfSome (D.state desk.old).reads (λ file. (IsFresh file → ⊥) → UsesDisk (D.state desk.old) (D.state desk.new) (D.state desk.old).may_leave) }
     ensures moments { DiskIsOfHistory setup.now (D.state desk.old).reads (D.state desk.old).may_leave → UsesDisk (D.state desk.old) (D.state desk.new) (IsOfHistory setup.now) }
@@ -131,6 +132,7 @@ pub(crate) fn run<R: Threads + Wait + Sync, G: Gate + Sync, D: Desk>(
     ensures begins { OnOk result (IfSome (D.state desk.old).reads (λ file. BeginsWith setup quanta file (D.state desk.new).reads (D.state desk.new).may_leave)) }
     ensures refused { IfErr result (λ s. IfRefused s (λ f. IfSome (D.state desk.old).reads (λ file. RefusesRun setup quanta file f
         × ((D.state desk.new).reads ≡ (D.state desk.old).reads) × IsToldAtRefusal (run_groups setup quanta) (D.state desk.old).told (D.state desk.new).told f))) }
+    ensures of_bank { IfErr result (λ s. IfHoldRefused s (λ f. ⊥)) }
 
     // Where the file as it was read is refused to the run, it is not written at any moment, whatever comes.
     ensures quiet { IfSome (D.state desk.old).reads (λ file. (f : BankFault) → RefusesRun setup quanta file f

@@ -1,17 +1,20 @@
 //! The call that does all that the program does.
 
-ghost use Rattle.std.specs.Prelude.{◌≡◌, ◌⊎◌, ◌+◌, ◌<◌, ◌≤◌, [], ℕ, List, Some, IfErr, IfSome, OnErr, OnOk, length, take};
+ghost use Rattle.std.specs.Prelude.{◌≡◌, ◌⊎◌, ◌+◌, ◌<◌, ◌≤◌, [], ℕ, List, Some, IfErr, IfSome, OnErr, OnOk, Option, length, take};
 ghost use Rattle.bank_recover.specs.declared.faults.BankFault.{BankFault};
 ghost use Rattle.desk_io.specs.Desk.{Appended, Elapses, HasNoFault, IsTellCall, Untouched};
+ghost use Rattle.soup_checkpoint.specs.declared.faults.HoldFault.{HoldFault};
+ghost use Rattle.soup_hold.specs.Holding.{CanHold, IsEarly, IsHoldText, RefusesHold};
 ghost use Rattle.soup_watch.specs.Watching.{IsWatchText};
 ghost use Rattle.soup_words.specs.Orders.{IsInRange};
 ghost use Rattle.soup_words.specs.declared.order.Order.{Order};
-ghost use Rattle.soup_top.specs.Answers.{Cause, DiskIsOfRun, EachMoment, EachRun, GivesNoRun, IsAllTold, IsToldInPart, OnBankRefused, OnDone, OnReadWhole, OnUncalled, UnlessDiskFault, UnlessReadFault, UnlessTellFault};
+ghost use Rattle.soup_top.specs.Answers.{Cause, DiskIsOfHold, DiskIsOfRun, EachHold, EachMoment, EachRun, GivesNothingToWrite, IsAllTold, IsToldInPart, OnBankRefused, OnDone, OnHoldRefused, OnReadWhole, OnUncalled, UnlessDiskFault, UnlessReadFault, UnlessTellFault};
+ghost use Rattle.soup_top.specs.Checkpoints.{DiskHoldsSerial, HasTrueMoments, IsLeftAlone, IsTrueHold, Resumes};
 ghost use Rattle.soup_top.specs.Genebank.{BeginsWith, DiskIsOfHistory, IsTrueMoment, RefusesRun};
 ghost use Rattle.soup_top.specs.Keeping.{IsToldAtRefusal};
 ghost use Rattle.soup_top.specs.Sources.{IsTextOf, read_by, run_groups};
-ghost use Rattle.soup_top.specs.Stops.{CountsStops, IfRefused};
-ghost use Rattle.soup_top.specs.Tasks.{IsFew, IsTextFor, IsToldWhenRefused, OfRun, OfText, RefusesTask, UnlessRun};
+ghost use Rattle.soup_top.specs.Stops.{CountsStops, IfHoldRefused, IfRefused};
+ghost use Rattle.soup_top.specs.Tasks.{IsFew, IsTextFor, IsToldWhenRefused, OfHold, OfRun, OfText, RefusesHolding, RefusesTask, UnlessWriting};
 ghost use Rattle.soup_top.specs.Words.{AsksFor, ReadsSource, kind_of, texts_of};
 
 use crate::asking::{Task, task_asked};
@@ -22,6 +25,7 @@ use crate::texts::groups_text;
 use bank_journal::read_bank;
 use crew::Gate;
 use desk_io::{Desk, Source, TellFailed};
+use soup_hold::hold;
 use soup_watch::watch;
 use soup_words::Order;
 use std::alloc::Global;
@@ -53,6 +57,7 @@ fn tell_bank<R: Threads + Sync, D: Desk>(
     ensures partly { OnErr result (((D.state desk.new).told ≡ (D.state desk.old).told) ⊎ ((text : List ℕ) × (k : ℕ) × IsTextFor (Task.Bank order) (D.state desk.old).reads text × Appended (D.state desk.old).told (take k text) (D.state desk.new).told)) }
     ensures refused { IfErr result (λ s. IfRefused s (λ f. RefusesTask (Task.Bank order) (D.state desk.old).reads f × ((D.state desk.new).told ≡ (D.state desk.old).told)
         × Elapses (D.state desk.old) (D.state desk.new) (λ image text. (D.state desk.old).may_leave image))) }
+    ensures of_bank { IfErr result (λ s. IfHoldRefused s (λ f. ⊥)) }
     ensures untouched { Untouched (D.state desk.old) (D.state desk.new) }
     ensures counts { CountsStops result (D.state desk.new) }
 {
@@ -76,6 +81,7 @@ fn watch_and_tell<R: Threads + Wait + Sync, G: Gate + Sync, D: Desk>(
     ensures told { OnOk result ((text : List ℕ) × IsWatchText setup order.quanta order.looks text × Appended (D.state desk.old).told text (D.state desk.new).told) }
     ensures partly { OnErr result (((D.state desk.new).told ≡ (D.state desk.old).told) ⊎ ((text : List ℕ) × (k : ℕ) × IsWatchText setup order.quanta order.looks text × Appended (D.state desk.old).told (take k text) (D.state desk.new).told)) }
     ensures refused { IfErr result (λ s. IfRefused s (λ f. ⊥)) }
+    ensures no_hold { IfErr result (λ s. IfHoldRefused s (λ f. ⊥)) }
     ensures untouched { Untouched (D.state desk.old) (D.state desk.new) }
     ensures disk { (D.state desk.new).disk_faults ≡ 0 }
     ensures counts { CountsStops result (D.state desk.new) }
@@ -83,6 +89,38 @@ fn watch_and_tell<R: Threads + Wait + Sync, G: Gate + Sync, D: Desk>(
     let looks = order.looks;
     let text = watch(rt, alloc, gate, setup, order.quanta, order.workers, looks)?;
     Ok(desk.tell(&text.items)?)
+}
+
+/// Runs the setup from its last checkpoint, keeps checkpoints, and tells that.
+fn hold_and_tell<D: Desk>(
+    alloc: Global,
+    desk: &mut D,
+    setup: Setup,
+    order: Order,
+) -> Result<(), RunStop>
+    requires range { IsInRange order }
+    requires sound { HasNoFault (D.state desk.old) }
+    ensures told { OnOk result ((text : List ℕ)
+        × IsHoldText setup order.quanta order.every (D.state desk.old).reads text
+        × Appended (D.state desk.old).told text (D.state desk.new).told) }
+    ensures partly { OnErr result (((D.state desk.new).told ≡ (D.state desk.old).told)
+        ⊎ ((text : List ℕ) × (k : ℕ) × IsHoldText setup order.quanta order.every (D.state desk.old).reads text
+        × Appended (D.state desk.old).told (take k text) (D.state desk.new).told)) }
+    ensures of_hold { IfErr result (λ s. IfRefused s (λ f. ⊥)) }
+    ensures refused { IfErr result (λ s. IfHoldRefused s
+        (RefusesHold setup order.quanta order.every (D.state desk.old).reads)) }
+    ensures early { IfErr result (λ s. IfHoldRefused s (λ f. IsEarly f
+        → IsLeftAlone (D.state desk.old) (D.state desk.new))) }
+    ensures quiet { (f : HoldFault) → IsEarly f → IfSome (D.state desk.old).reads (λ file.
+        RefusesHold setup order.quanta order.every (Some file) f
+        → Elapses (D.state desk.old) (D.state desk.new) (λ image text. (D.state desk.old).may_leave image)) }
+    ensures small { OnOk result (IfSome (D.state desk.old).reads (λ file.
+        CanHold setup order.quanta order.every (Some file))) }
+    ensures resumed { OnOk result (Resumes setup order.quanta order.every (D.state desk.old) (D.state desk.new)) }
+    ensures moments { HasTrueMoments setup order.quanta order.every (D.state desk.old) (D.state desk.new) }
+    ensures counts { CountsStops result (D.state desk.new) }
+{
+    Ok(hold(alloc, desk, &setup, order.quanta, order.every)?)
 }
 
 /// Does what was asked.
@@ -101,12 +139,24 @@ fn carry_out<R: Threads + Wait + Sync, G: Gate + Sync, D: Desk>(
     ensures moments { OfRun task (λ setup n. DiskIsOfHistory setup (D.state desk.old).reads (D.state desk.old).may_leave
         → Elapses (D.state desk.old) (D.state desk.new) (IsTrueMoment setup n (D.state desk.old).told)) }
     ensures refused { IfErr result (λ s. IfRefused s (λ f. RefusesTask task (D.state desk.old).reads f)) }
+    ensures hold_refused { IfErr result (λ s. IfHoldRefused s (RefusesHolding task (D.state desk.old).reads)) }
+    ensures hold_early { IfErr result (λ s. IfHoldRefused s (λ f. IsEarly f
+        → IsLeftAlone (D.state desk.old) (D.state desk.new))) }
+    ensures hold_quiet { OfHold task (λ setup n every. (f : HoldFault) → IsEarly f
+        → IfSome (D.state desk.old).reads (λ file. RefusesHold setup n every (Some file) f
+        → Elapses (D.state desk.old) (D.state desk.new) (λ image text. (D.state desk.old).may_leave image))) }
+    ensures small { OnOk result (OfHold task (λ setup n every. IfSome (D.state desk.old).reads (λ file.
+        CanHold setup n every (Some file)))) }
+    ensures resumed { OnOk result (OfHold task (λ setup n every.
+        Resumes setup n every (D.state desk.old) (D.state desk.new))) }
+    ensures hold_moments { OfHold task (λ setup n every.
+        HasTrueMoments setup n every (D.state desk.old) (D.state desk.new)) }
     ensures unwritten { IfErr result (λ s. IfRefused s (λ f. IfSome (D.state desk.old).reads (λ file. (D.state desk.new).reads ≡ (D.state desk.old).reads))) }
     ensures told_at_refusal { IfErr result (λ s. IfRefused s (λ f. IfSome (D.state desk.old).reads (λ file. IsToldWhenRefused task (D.state desk.old).told (D.state desk.new).told f))) }
     ensures quiet { IfErr result (λ s. IfRefused s (λ f. IfSome (D.state desk.old).reads (λ file. Elapses (D.state desk.old) (D.state desk.new) (λ image text. (D.state desk.old).may_leave image)))) }
     ensures quiet_run { OfRun task (λ setup n. IfSome (D.state desk.old).reads (λ file. (f : BankFault) → RefusesRun setup n file f
         → Elapses (D.state desk.old) (D.state desk.new) (λ image text. (D.state desk.old).may_leave image))) }
-    ensures untouched { UnlessRun task (Untouched (D.state desk.old) (D.state desk.new)) }
+    ensures untouched { UnlessWriting task (Untouched (D.state desk.old) (D.state desk.new)) }
     ensures disk { OfText task ((D.state desk.new).disk_faults ≡ 0) }
     ensures counts { CountsStops result (D.state desk.new) }
 {
@@ -119,11 +169,13 @@ fn carry_out<R: Threads + Wait + Sync, G: Gate + Sync, D: Desk>(
         Task::Tell { text } => Ok(desk.tell(&text.items)?),
         Task::Bank { order } => tell_bank(rt, alloc, desk, order),
         Task::Watch { setup, order } => watch_and_tell(rt, alloc, desk, gate, setup, order),
+        Task::Hold { setup, order } => hold_and_tell(alloc, desk, setup, order),
     }
 }
 
 /// Does all that the program does: reads the words and the source, and does what they ask for. A run keeps its genebank
-/// in the disk's file, and tells a saved line once the genebank has the genotype.
+/// in the disk's file, and tells a saved line once the genebank has the genotype. A run with checkpoints keeps them
+/// there in place of a genebank, goes on from the last one, and tells a checkpoint once the file holds it.
 pub fn tierra<R: Threads + Wait + Sync, S: Source, D: Desk, G: Gate + Sync>(
     rt: &R,
     alloc: Global,
@@ -149,13 +201,31 @@ pub fn tierra<R: Threads + Wait + Sync, S: Source, D: Desk, G: Gate + Sync>(
         DiskIsOfHistory setup (D.state desk.old).reads (D.state desk.old).may_leave
         → EachMoment (D.state desk.old) (D.state desk.new) (IsTrueMoment setup n (D.state desk.old).told)) }
 
+    // A run with checkpoints that is done, and went on from a world of the serial run, has told a line for each later
+    // checkpoint, and the report of the world that the serial slicer reaches.
+    ensures resumed { OnDone result (EachHold (texts_of words.now) (S.left source.old) (λ setup n every.
+        Resumes setup n every (D.state desk.old) (D.state desk.new))) }
+
+    // None of its states was too large.
+    ensures small { OnDone result (EachHold (texts_of words.now) (S.left source.old) (λ setup n every.
+        IfSome (D.state desk.old).reads (λ file. CanHold setup n every (Some file)))) }
+
+    // At every moment of it, whatever it answers, a crash leaves what the file held at the start, or a later checkpoint
+    // of the serial run: none earlier than one that was told, and at most one that was not.
+    ensures checkpoints { EachHold (texts_of words.now) (S.left source.old) (λ setup n every. (start : Option ℕ)
+        → DiskHoldsSerial setup start (D.state desk.old).reads (D.state desk.old).may_leave
+        → EachMoment (D.state desk.old) (D.state desk.new) (IsTrueHold setup n every start (D.state desk.old).told)) }
+
     // Each answer has its cause.
     ensures cause { Cause (texts_of words.now) (S.left source.old) (D.state desk.old).reads (0 < S.faults source.new) (0 < (D.state desk.new).disk_faults) (0 < (D.state desk.new).tell_faults) result }
 
-    // Without a fault, accepted words and bytes, and for a run a disk of its history, give Done or want of memory.
+    // Without a fault, accepted words and bytes, for a run a disk of its history, and for one with checkpoints a
+    // desk that tells its file, which is not beyond, and states that are not too large, give Done or want of memory.
     ensures complete { (order : Order) (bytes text : List ℕ) → AsksFor (texts_of words.now) order
-        → read_by (kind_of order) (S.left source.old) (D.state desk.old).reads ≡ Some bytes → IsTextOf order bytes text
+        → read_by (kind_of order) (S.left source.old) (D.state desk.old).reads ≡ Some bytes
+        → IsTextOf order bytes (D.state desk.old).reads text
         → DiskIsOfRun order bytes (D.state desk.old).reads (D.state desk.old).may_leave
+        → DiskIsOfHold order bytes (D.state desk.old).reads
         → S.faults source.new ≡ 0 → (D.state desk.new).disk_faults ≡ 0 → (D.state desk.new).tell_faults ≡ 0
         → (result ≡ Status.Done) ⊎ (result ≡ Status.OutOfMemory) }
 
@@ -175,8 +245,18 @@ pub fn tierra<R: Threads + Wait + Sync, S: Source, D: Desk, G: Gate + Sync>(
     ensures told_at_refusal { OnBankRefused result (λ f. EachRun (texts_of words.now) (S.left source.old) (λ setup n.
         IfSome (D.state desk.old).reads (λ file. IsToldAtRefusal (run_groups setup n) (D.state desk.old).told (D.state desk.new).told f))) }
 
+    // Checkpoints that are refused before any is appended are not written at any moment, and nothing is told.
+    ensures hold_early { OnHoldRefused result (((D.state desk.new).told ≡ (D.state desk.old).told)
+        × IfSome (D.state desk.old).reads (λ file. (D.state desk.new).reads ≡ (D.state desk.old).reads)) }
+    ensures hold_quiet { OnHoldRefused result (IfSome (D.state desk.old).reads (λ file.
+        EachMoment (D.state desk.old) (D.state desk.new) (λ image text. (D.state desk.old).may_leave image))) }
+    ensures quiet_hold { EachHold (texts_of words.now) (S.left source.old) (λ setup n every. (f : HoldFault) → IsEarly f
+        → IfSome (D.state desk.old).reads (λ file. RefusesHold setup n every (Some file) f
+        → EachMoment (D.state desk.old) (D.state desk.new) (λ image text. (D.state desk.old).may_leave image))) }
+
     // Only a run writes, once its source is accepted.
-    ensures untouched { GivesNoRun (texts_of words.now) (S.left source.old) → Untouched (D.state desk.old) (D.state desk.new) }
+    ensures untouched { GivesNothingToWrite (texts_of words.now) (S.left source.old)
+        → Untouched (D.state desk.old) (D.state desk.new) }
 
     // A source is read to its end, and never further than one byte past the most. The genebank is told without one.
     ensures to_its_end { (order : Order) → AsksFor (texts_of words.now) order → ReadsSource (kind_of order)

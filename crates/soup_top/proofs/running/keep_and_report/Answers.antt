@@ -7,7 +7,7 @@ use Rattle.soup_top.specs.Keeping.{IsKeeping}
 use Rattle.soup_top.specs.Sources.{run_groups, run_report}
 use Rattle.soup_top.proofs.RunMoments.{Completes-untouched, report-time}
 use Rattle.soup_top.proofs.Taking.{times_then}
-use Rattle.soup_top.proofs.Telling.{all_told, none_told, piece_begun, piece_told}
+use Rattle.soup_hold.proofs.Telling.{all_told, none_told, piece_begun, piece_told}
 use Rattle.soup_top.proofs.running.keep_and_report.Given.{Over}
 use Rattle.soup_top.proofs.running.keep_and_report.Goals as goal
 use Rattle.soup_top.proofs.running.keep_and_report.Goals.{After-tell}

@@ -2,7 +2,7 @@ use Rattle.std.proofs.Common.{refl, sym, subst, List, ℕ, Option}
 use Rattle.desk_io.specs.Desk.{AppendedSome}
 use Rattle.soup_top.specs.Sources.{run_groups, run_report, run_text}
 use Rattle.soup_top.proofs.RunAnswers.{attach-quiet, attach-refused, attached-time, kept-time, run-begins, run-quiet, run-refused, run-told}
-use Rattle.soup_top.proofs.Telling.{as_told, none_told}
+use Rattle.soup_hold.proofs.Telling.{as_told, none_told}
 use Rattle.soup_top.proofs.running.run.Goals as goal
 
 pub returns-in-Err-clause-told : goal.returns-in-Err-clause-told

@@ -1,0 +1,10 @@
+pub mod Quanta
+pub mod Telling
+pub mod Appending
+pub mod Steps
+pub mod Places
+pub mod SomeText
+pub mod Refusing
+pub mod Whole
+pub mod Settled
+pub mod Together

@@ -1,0 +1,118 @@
+-- What comes of a run, by how it began and how it went on.
+use Rattle.std.proofs.Common.{◌≡◌, ◌⊎◌, inr, refl, sym, subst, ℕ, ◌<◌, ◌≤◌, List, take, Option, Some, Result, Ok, Err, OnOk, All}
+use Rattle.std.specs.Prelude.{IfErr, IfSome, OnErr}
+use Rattle.desk_io.specs.Desk.{Appended, DeskState, Elapses, TellsText, UsesDisk}
+use Rattle.desk_io.proofs.Time.{Elapses-then, Elapses-weaker}
+use Rattle.file_journal.specs.Files.{IsFresh}
+use Rattle.file_journal.specs.Steps.{IfTold, IsUnwritten}
+use Rattle.file_journal.proofs.Times.{each_file, for_file}
+use Rattle.soup_checkpoint.specs.declared.faults.HoldFault.{HoldFault}
+use Rattle.soup_checkpoint.specs.declared.faults.HoldFault.TheVariants as fault
+use Rattle.soup_checkpoint.specs.declared.owner.Owner.{Owner}
+use Rattle.soup_checkpoint.specs.Hold.{owner_of, title}
+use Rattle.soup_checkpoint.specs.Shelf.{SaysAsBefore, SaysSame, ShelfState}
+use Rattle.soup_hold.specs.declared.stop.HoldStop.{HoldStop}
+use Rattle.soup_hold.specs.declared.stop.HoldStop.TheVariants as stop
+use Rattle.soup_hold.specs.Holding.{CanHold, DiskHolds, GoesOnFrom, HoldsState, IsBeyond, IsEarly, IsFirst, IsHolding, IsHoldText, IsSmall, RefusesHold}
+use Rattle.soup_hold.specs.Steps.{Begins, IsLargeFirst}
+use Rattle.soup_hold.specs.Stops.{IfRefused}
+use Rattle.soup_hold.specs.Text.{held_quanta, hold_text, world_at}
+use Rattle.soup_hold.proofs.Refusing.{goes_on_no_further, not_fresh, one_beginning}
+use Rattle.soup_hold.proofs.Whole.{beginning_time, begins_there, going_on_time, too_large}
+use Rattle.tierra_model.specs.Setups.{SetupFields}
+use Rattle.tierra_model.specs.World.{World}
+
+module _ (setup : SetupFields) (n every : ℕ) (old : DeskState) where
+  abbrev Quiet : DeskState → Type 0
+  Quiet new = Elapses old new (λ image text. old.may_leave image)
+
+  abbrev QuietWhereRefused : DeskState → HoldFault → Type 0
+  QuietWhereRefused new f = IfSome old.reads (λ file. RefusesHold setup n every (Some file) f → Quiet new)
+
+  -- a refused file is not written while it is attached
+  pub begun_quietly : (mid : DeskState) → IfSome old.reads (λ file. (IsFresh title file → ⊥) → UsesDisk old mid old.may_leave)
+      → (f : HoldFault) → IsEarly f → QuietWhereRefused mid f
+  begun_quietly mid quiet f early =
+      each_file old.reads (λ (file : List ℕ). (IsFresh title file → ⊥) → UsesDisk old mid old.may_leave)
+      (λ (file : List ℕ). RefusesHold setup n every (Some file) f → Quiet mid)
+      (λ file is uses r. Elapses-weaker (λ image text m. m.0) (uses (not_fresh setup n every file f early r)).time) quiet
+
+  module _ (mid : DeskState) (s : ShelfState) (w : World) (b : Begins setup old mid s w) where
+    goes_from : (file : List ℕ) → old.reads ≡ Some file → GoesOnFrom setup (Some file) w
+    goes_from file is = subst (λ (o : Option (List ℕ)). GoesOnFrom setup o w) is b.goes_on
+
+    -- ---- the world that is held has run further
+
+    pub is_beyond : (held : ℕ) → held ≡ w.quanta → n < held → IsBeyond setup n old.reads held
+    is_beyond held is more = record { first = w; goes_on = b.goes_on; at = sym is; beyond = more }
+
+    pub beyond_unwritten : (held : ℕ) → held ≡ w.quanta → n < held
+        → IfSome old.reads (λ file. (IsFresh title file → ⊥) → IsUnwritten old mid) → IfSome old.reads (λ file. IsUnwritten old mid)
+    beyond_unwritten held is more kept =
+        each_file old.reads (λ (file : List ℕ). (IsFresh title file → ⊥) → IsUnwritten old mid) (λ (file : List ℕ). IsUnwritten old mid)
+        (λ file there unwritten.
+        let refused : RefusesHold setup n every (Some file) (fault.Beyond held) =
+        record { first = w; goes_on = goes_from file there; at = sym is; beyond = more } in
+        unwritten (not_fresh setup n every file (fault.Beyond held) tt refused)) kept
+
+    -- ---- the run goes on
+
+    pub went_on_unrefused : (new : DeskState) → w.quanta ≤ n → (f : HoldFault) → IsEarly f → QuietWhereRefused new f
+    went_on_unrefused new within f early =
+        for_file old.reads (λ (file : List ℕ). RefusesHold setup n every (Some file) f → Quiet new)
+        (λ file is r. absurd (goes_on_no_further setup n every file w f early (goes_from file is) within r))
+
+    pub whole_time : (new : DeskState) → UsesDisk old mid (IfTold old (SaysAsBefore (owner_of setup) old.may_leave))
+        → IfSome mid.reads (λ file. Elapses mid new (IsHolding s.owner (SaysSame s.owner file) w (held_quanta every w.quanta n) mid.told))
+        → (held : Option (List ℕ)) (first : World) → DiskHolds setup held old.reads old.may_leave → IsFirst setup held first
+        → Elapses old new (IsHolding (owner_of setup) (HoldsState setup held) first (held_quanta every first.quanta n) old.told)
+    whole_time new uses time held first disk is =
+        let there = begins_there setup held first w old mid s disk is b in
+        let owned = subst (λ (o : Owner). IfSome mid.reads (λ file. Elapses mid new (IsHolding o (SaysSame o file) w (held_quanta every w.quanta n) mid.told)))
+        b.owner_is time in
+        let mine = subst (λ (v : World). IfSome mid.reads (λ file. Elapses mid new (IsHolding (owner_of setup) (SaysSame (owner_of setup) file) v (held_quanta every v.quanta n) mid.told)))
+        (sym there.0) owned in
+        let quanta = held_quanta every first.quanta n in
+        Elapses-then (beginning_time setup held first quanta old mid disk uses)
+        (going_on_time setup held first quanta old mid new uses.told there.1 mine)
+
+    abbrev text : List ℕ
+    text = hold_text w n every
+
+    is_text : w.quanta ≤ n → IsHoldText setup n every old.reads text
+    is_text within = record { first = w; goes_on = b.goes_on; not_beyond = within; text_is = refl }
+
+    pub all_told_then : {T : Type 0} (r : Result T HoldStop) (new : DeskState) → w.quanta ≤ n → mid.told ≡ old.told → TellsText mid new text r
+        → OnOk r ((t : List ℕ) × IsHoldText setup n every old.reads t × Appended old.told t new.told)
+    all_told_then (Ok x) new within same tells = (text, is_text within, subst (λ (o : Option (List ℕ)). Appended o text new.told) same tells.all)
+    all_told_then (Err s) new within same tells = tt
+
+    pub part_told_then : {T : Type 0} (r : Result T HoldStop) (new : DeskState) → w.quanta ≤ n → mid.told ≡ old.told → TellsText mid new text r
+        → OnErr r ((new.told ≡ old.told) ⊎ ((t : List ℕ) × (k : ℕ) × IsHoldText setup n every old.reads t × Appended old.told (take k t) new.told))
+    part_told_then (Ok x) new within same tells = tt
+    part_told_then (Err s) new within same tells =
+        inr (text, tells.partly.0, is_text within, subst (λ (o : Option (List ℕ)). Appended o (take tells.partly.0 text) new.told) same tells.partly.1)
+
+    pub all_small : {T : Type 0} (r : Result T HoldStop) → OnOk r (All (λ q. IsSmall (world_at w q)) (held_quanta every w.quanta n))
+        → OnOk r (IfSome old.reads (λ file. CanHold setup n every (Some file)))
+    all_small (Ok x) small =
+        for_file old.reads (λ (file : List ℕ). CanHold setup n every (Some file))
+        (λ file is. record {
+          image = file;
+          told = refl;
+          small = λ first goes.
+              let same = one_beginning setup (Some file) file w first refl (goes_from file is) goes in
+              subst (λ (v : World). All (λ q. IsSmall (world_at v q)) (held_quanta every v.quanta n)) same small;
+        })
+    all_small (Err s) small = tt
+
+    refused_by : (s : HoldStop) → IfRefused s (IsLargeFirst w (held_quanta every w.quanta n)) → IfRefused s (RefusesHold setup n every old.reads)
+    refused_by (stop.Refused f) large = too_large setup n every old.reads w f b.goes_on large
+    refused_by stop.DiskFault large = tt
+    refused_by stop.TellFault large = tt
+    refused_by stop.OutOfMemory large = tt
+
+    pub refused_then : {T : Type 0} (r : Result T HoldStop) → IfErr r (λ s. IfRefused s (IsLargeFirst w (held_quanta every w.quanta n)))
+        → IfErr r (λ s. IfRefused s (RefusesHold setup n every old.reads))
+    refused_then (Ok x) large = tt
+    refused_then (Err s) large = refused_by s large

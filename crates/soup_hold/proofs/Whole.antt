@@ -1,0 +1,193 @@
+-- A whole run, from its file to its report.
+use Rattle.std.proofs.Common.{◌≡◌, ◌∙◌, ◌⊎◌, inl, inr, refl, sym, ap, subst, arith, ℕ, zero, suc, ◌-◌, List, [], ◌++◌, length, take, append-nil, Option, Some, None, Result, Ok}
+use Rattle.std.specs.Prelude.{IfSome, IsSomeAnd}
+use Rattle.std.proofs.lemmas.List.{take_all}
+use Rattle.desk_io.specs.Desk.{Appended, DeskState, Elapses, Tells, UsesDisk}
+use Rattle.desk_io.proofs.Time.{Elapses-then, Elapses-weaker}
+use Rattle.file_journal.specs.Steps.{IfTold}
+use Rattle.file_journal.proofs.Times.{at_file, for_file, told_now}
+use Rattle.report_text.specs.Report.{report}
+use Rattle.serial_slicer.specs.Onward.{after}
+use Rattle.soup_checkpoint.specs.declared.faults.HoldFault.{HoldFault}
+use Rattle.soup_checkpoint.specs.declared.owner.Owner.{Owner}
+use Rattle.soup_checkpoint.specs.Hold.{owner_of}
+use Rattle.soup_checkpoint.specs.Shelf.{Attaches, SaysAsBefore, SaysSame, ShelfState}
+use Rattle.soup_hold.specs.Holding.{BeginsWithText, DiskHolds, GoesOnFrom, HoldsAfter, HoldsState, IsFirst, IsHolding, IsEarly, IsTooLarge, RefusesHold}
+use Rattle.soup_hold.specs.Steps.{Begins, HasHeld, IsLargeFirst}
+use Rattle.soup_hold.specs.Text.{held_lines, held_quanta, last_report, world_at}
+use Rattle.soup_hold.proofs.Refusing.{one_first, one_held}
+use Rattle.soup_hold.proofs.Steps.{begins_still}
+use Rattle.soup_hold.proofs.Telling.{told_after}
+use Rattle.tierra_model.specs.Serial.{start}
+use Rattle.tierra_model.specs.Setups.{SetupFields}
+use Rattle.tierra_model.specs.World.{World}
+use Rattle.world_core.specs.Running.{WorldFields}
+use Rattle.world_state.specs.Restoring.{AreBytesOf}
+use Rattle.world_state.specs.StateBytes.{state_bytes}
+
+-- ---- while the report is told
+
+pub last_report_is : (first w : World) (n : ℕ) (text : List ℕ) → text ≡ report (after (n - w.quanta) w) → after (n - w.quanta) w ≡ world_at first n
+    → text ≡ last_report first n
+unfolding last_report
+last_report_is first w n text is same = is ∙ ap report same
+
+module _ (owner : Owner) (first : World) (quanta : List ℕ) where
+  abbrev Holding : List ℕ → Option (List ℕ) → List ℕ → List ℕ → Type 0
+  Holding file = IsHolding owner (SaysSame owner file) first quanta
+
+  -- all lines were told
+  pub all_lines : (before now : Option (List ℕ)) → Appended before (held_lines (take (length quanta) quanta)) now
+      → Appended before (held_lines quanta) now
+  all_lines before now told =
+      let all : take (length quanta) quanta ≡ quanta = take_all (length quanta) quanta (omega arith) in
+      subst (λ (l : List ℕ). Appended before (held_lines l) now) all told
+
+  telling_time : {T E : Type 0} {result : Result T E} {old mid : DeskState} {s : ShelfState} {w : World} (new : DeskState)
+      (report file : List ℕ) → old.reads ≡ Some file → HasHeld owner first quanta old mid (length quanta) s w
+      → Tells mid new report result → Elapses mid new (Holding file old.told)
+  telling_time {old = old} {mid = mid} new report file is so_far tells =
+      let now = at_file old.reads (λ (f : List ℕ). IsSomeAnd mid.reads (HoldsAfter owner (SaysSame owner f) first quanta (length quanta))) file is so_far.holds in
+      let there = told_now mid.reads (HoldsAfter owner (SaysSame owner file) first quanta (length quanta)) now in
+      Elapses-weaker (λ image text m.
+      let image_is = at_file mid.reads (λ (f : List ℕ). (i : List ℕ) → mid.may_leave i → i ≡ f) there.0 there.1 so_far.attached.settled.durable image
+      ((tells.untouched.crash image).0 m.0) in
+      record {
+        j = length quanta;
+        piece = held_lines quanta ++ take m.1.1 report;
+        inside = omega arith;
+        holds = subst (HoldsAfter owner (SaysSame owner file) first quanta (length quanta)) (sym image_is) there.2;
+        told = told_after old.told mid.told (held_lines quanta) m.1.0 (take m.1.1 report) text (all_lines old.told mid.told so_far.told) m.1.2 m.1.3;
+        kept_up =
+            let all : take (length quanta) quanta ≡ quanta = take_all (length quanta) quanta (omega arith) in
+            subst (λ (l : List ℕ). BeginsWithText (held_lines (take (length quanta - 1) quanta)) (held_lines l ++ take m.1.1 report)) all
+            (begins_still quanta (length quanta - 1) (length quanta) (take m.1.1 report) (omega arith));
+        covered = λ more. absurd (omega (arith, more));
+      }) tells.time
+
+  pub report_time : {T E : Type 0} {result : Result T E} {old mid : DeskState} {s : ShelfState} {w : World} (new : DeskState) (report : List ℕ)
+      → HasHeld owner first quanta old mid (length quanta) s w → Tells mid new report result
+      → IfSome old.reads (λ file. Elapses old new (Holding file old.told))
+  report_time {old = old} {mid = mid} new report so_far tells =
+      for_file old.reads (λ (file : List ℕ). Elapses old new (Holding file old.told))
+      (λ file is.
+      Elapses-then (at_file old.reads (λ (f : List ℕ). Elapses old mid (Holding f old.told)) file is so_far.time)
+      (telling_time new report file is so_far tells))
+
+-- ---- from the file to the end
+
+module _ (setup : SetupFields) (held : Option (List ℕ)) (first : World) (quanta : List ℕ) where
+  abbrev HoldingOn : Option (List ℕ) → List ℕ → List ℕ → Type 0
+  HoldingOn = IsHolding (owner_of setup) (HoldsState setup held) first quanta
+
+  -- an image that says as before holds what was held
+  says_as_before : (may_leave : List ℕ → Type 0) (file image : List ℕ) → HoldsState setup held file
+      → ((was : List ℕ) → may_leave was → HoldsState setup held was) → SaysAsBefore (owner_of setup) may_leave file image
+      → HoldsState setup held image
+  says_as_before may_leave file image read left says = (says.2 (Ok held)).0 (was says.1)
+    where
+      was : may_leave says.0 ⊎ (says.0 ≡ file) → HoldsState setup held says.0
+      was (inl l) = left says.0 l
+      was (inr same) = subst (HoldsState setup held) (sym same) read
+
+  -- while the file is attached
+  pub beginning_time : (old mid : DeskState) → DiskHolds setup held old.reads old.may_leave
+      → UsesDisk old mid (IfTold old (SaysAsBefore (owner_of setup) old.may_leave)) → Elapses old mid (HoldingOn old.told)
+  beginning_time old mid disk uses =
+      Elapses-weaker (λ image text m.
+      let says = at_file old.reads (λ (f : List ℕ). SaysAsBefore (owner_of setup) old.may_leave f image) disk.file disk.told m.0 in
+      record {
+        j = 0;
+        piece = [];
+        inside = omega arith;
+        holds = says_as_before old.may_leave disk.file image disk.read disk.left says;
+        told = (text, m.1, sym (append-nil text));
+        kept_up = ([], refl);
+        covered = λ more. omega arith;
+      }) uses.time
+
+  holds_on : (file image : List ℕ) (j : ℕ) → HoldsState setup held file
+      → HoldsAfter (owner_of setup) (SaysSame (owner_of setup) file) first quanta j image
+      → HoldsAfter (owner_of setup) (HoldsState setup held) first quanta j image
+  holds_on file image zero read holds = (holds (Ok held)).0 read
+  holds_on file image (suc j) read holds = holds
+
+  -- and behind that
+  pub going_on_time : (old mid new : DeskState) → mid.told ≡ old.told → IsSomeAnd mid.reads (HoldsState setup held)
+      → IfSome mid.reads (λ file. Elapses mid new (IsHolding (owner_of setup) (SaysSame (owner_of setup) file) first quanta mid.told))
+      → Elapses mid new (HoldingOn old.told)
+  going_on_time old mid new told_is still time =
+      let there = told_now mid.reads (HoldsState setup held) still in
+      let on = at_file mid.reads (λ (f : List ℕ). Elapses mid new (IsHolding (owner_of setup) (SaysSame (owner_of setup) f) first quanta mid.told)) there.0 there.1 time in
+      Elapses-weaker (λ image text m. record {
+        j = m.j;
+        piece = m.piece;
+        inside = m.inside;
+        holds = holds_on there.0 image m.j there.2 m.holds;
+        told = (m.told.0, sym told_is ∙ m.told.1, m.told.2);
+        kept_up = m.kept_up;
+        covered = m.covered;
+      }) on
+
+-- what a run goes on from is what the file holds
+pub begins_there : (setup : SetupFields) (held : Option (List ℕ)) (first w : World) (old mid : DeskState) (s : ShelfState)
+    → DiskHolds setup held old.reads old.may_leave → IsFirst setup held first → Begins setup old mid s w
+    → (first ≡ w) × IsSomeAnd mid.reads (HoldsState setup held)
+begins_there setup held first w old mid s disk is b =
+    let read = at_file old.reads (HoldsState setup b.goes_on.held) disk.file disk.told b.goes_on.read in
+    let same : b.goes_on.held ≡ held = one_held setup disk.file b.goes_on.held held read disk.read in
+    let still = at_file old.reads (λ (f : List ℕ). IsSomeAnd mid.reads (HoldsState setup b.goes_on.held)) disk.file disk.told b.still in (
+      one_first setup held first w is (subst (λ (h : Option (List ℕ)). IsFirst setup h w) same b.goes_on.is_first),
+      subst (λ (h : Option (List ℕ)). IsSomeAnd mid.reads (HoldsState setup h)) same still,
+    )
+
+-- ---- the beginning
+
+pub begins_held : (setup : SetupFields) (old new : DeskState) (s : ShelfState) (held : Option WorldFields) (x : WorldFields) (w : World)
+    → Attaches (owner_of setup) old new s held → held ≡ Some x → w ≡ x.world → Begins setup old new s w
+begins_held setup old new s held x w attaches is same =
+    let a = subst (Attaches (owner_of setup) old new s) is attaches in
+    record {
+      owner_is = a.owner_is;
+      attached = a.attached;
+      goes_on = record {
+        held = Some (state_bytes x.world);
+        read = a.held;
+        is_first = subst (AreBytesOf setup.settings (state_bytes x.world)) (sym same) a.world_is;
+      };
+      still = a.still;
+    }
+
+pub begins_anew : (setup : SetupFields) (old new : DeskState) (s : ShelfState) (held : Option WorldFields) (w : World)
+    → Attaches (owner_of setup) old new s held → held ≡ None → w ≡ start setup → Begins setup old new s w
+begins_anew setup old new s held w attaches is same =
+    let a = subst (Attaches (owner_of setup) old new s) is attaches in
+    record {
+      owner_is = a.owner_is;
+      attached = a.attached;
+      goes_on = record { held = None; read = a.held; is_first = same };
+      still = a.still;
+    }
+
+-- ---- a state that is too large
+
+pub too_large : (setup : SetupFields) (n every : ℕ) (file : Option (List ℕ)) (first : World) (f : HoldFault) → GoesOnFrom setup file first
+    → IsLargeFirst first (held_quanta every first.quanta n) f → RefusesHold setup n every file f
+too_large setup n every file first f goes large =
+    let i = large.0 in
+    let q = large.1 in
+    let bytes = length (state_bytes (world_at first q)) in
+    let is : IsTooLarge setup n every file q bytes = record {
+      first = first;
+      goes_on = goes;
+      place = i;
+      there = large.2;
+      before = large.3;
+      bytes_are = refl;
+      large = large.4.1;
+    } in
+    subst (RefusesHold setup n every file) (sym large.4.0) is
+
+-- it is not one that comes before a state is appended
+pub not_early : (first : World) (quanta : List ℕ) (f : HoldFault) → IsLargeFirst first quanta f → IsEarly f → ⊥
+not_early first quanta f large early = subst IsEarly large.4.0 early

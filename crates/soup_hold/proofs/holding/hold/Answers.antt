@@ -1,0 +1,74 @@
+use Rattle.std.proofs.Common.{◌∙◌, ap, arith, sym}
+use Rattle.soup_checkpoint.specs.declared.owner.Owner.{Owner}
+use Rattle.soup_hold.specs.Text.{held_quanta}
+use Rattle.soup_hold.proofs.Settled.{first_settings}
+use Rattle.soup_hold.proofs.Together.{all_small, all_told_then, begun_quietly, beyond_unwritten, is_beyond, part_told_then, refused_then, went_on_unrefused, whole_time}
+use Rattle.soup_hold.proofs.Whole.{beginning_time}
+use Rattle.soup_hold.proofs.holding.hold.Goals as goal
+
+pub returns-in_err-shelf-clause-quiet : goal.returns-in_err-shelf-clause-quiet
+returns-in_err-shelf-clause-quiet g c =
+    begun_quietly c.args.setup.now c.args.quanta c.args.every (g.D.Desk.state c.args.desk.now) (g.D.Desk.state c.begin.new.desk) c.begin.ensures.quiet
+
+pub returns-in_err-shelf-clause-moments : goal.returns-in_err-shelf-clause-moments
+returns-in_err-shelf-clause-moments g c held first disk is =
+    beginning_time c.args.setup.now held first (held_quanta c.args.every first.quanta c.args.quanta) (g.D.Desk.state c.args.desk.now)
+    (g.D.Desk.state c.begin.new.desk) disk c.begin.ensures.moments
+
+pub returns-then-held-quanta-clause-refused : goal.returns-then-held-quanta-clause-refused
+returns-then-held-quanta-clause-refused g c =
+    is_beyond c.args.setup.now c.args.quanta c.args.every (g.D.Desk.state c.args.desk.now) (g.D.Desk.state c.begin.new.desk) c.in_ok-shelf.shelf
+    c.in_ok-shelf.world.world c.in_ok-shelf.ensures.begun c.quanta-held.result c.quanta-held.ensures (omega (arith, c.if-held-quanta.true))
+
+pub returns-then-held-quanta-clause-unwritten : goal.returns-then-held-quanta-clause-unwritten
+returns-then-held-quanta-clause-unwritten g c early =
+    beyond_unwritten c.args.setup.now c.args.quanta c.args.every (g.D.Desk.state c.args.desk.now) (g.D.Desk.state c.begin.new.desk) c.in_ok-shelf.shelf
+    c.in_ok-shelf.world.world c.in_ok-shelf.ensures.begun c.quanta-held.result c.quanta-held.ensures (omega (arith, c.if-held-quanta.true))
+    c.in_ok-shelf.ensures.kept
+
+pub returns-then-held-quanta-clause-quiet : goal.returns-then-held-quanta-clause-quiet
+returns-then-held-quanta-clause-quiet g c =
+    begun_quietly c.args.setup.now c.args.quanta c.args.every (g.D.Desk.state c.args.desk.now) (g.D.Desk.state c.begin.new.desk) c.begin.ensures.quiet
+
+pub returns-then-held-quanta-clause-moments : goal.returns-then-held-quanta-clause-moments
+returns-then-held-quanta-clause-moments g c held first disk is =
+    beginning_time c.args.setup.now held first (held_quanta c.args.every first.quanta c.args.quanta) (g.D.Desk.state c.args.desk.now)
+    (g.D.Desk.state c.begin.new.desk) disk c.begin.ensures.moments
+
+pub hold_from-requires-clause-settings : goal.hold_from-requires-clause-settings
+hold_from-requires-clause-settings g c =
+    first_settings c.args.setup.now (g.D.Desk.state c.args.desk.now).reads c.in_ok-shelf.world.world c.in_ok-shelf.ensures.begun.goes_on
+    ∙ sym (ap (λ (o : Owner). o.settings) c.in_ok-shelf.ensures.begun.owner_is)
+
+pub returns-clause-told : goal.returns-clause-told
+returns-clause-told g c =
+    all_told_then c.args.setup.now c.args.quanta c.args.every (g.D.Desk.state c.args.desk.now) (g.D.Desk.state c.begin.new.desk) c.in_ok-shelf.shelf
+    c.in_ok-shelf.world.world c.in_ok-shelf.ensures.begun c.hold_from.result (g.D.Desk.state c.hold_from.new.desk)
+    (omega (arith, c.if-held-quanta.false, c.quanta-held.ensures)) c.begin.ensures.moments.told c.hold_from.ensures.told
+
+pub returns-clause-partly : goal.returns-clause-partly
+returns-clause-partly g c =
+    part_told_then c.args.setup.now c.args.quanta c.args.every (g.D.Desk.state c.args.desk.now) (g.D.Desk.state c.begin.new.desk) c.in_ok-shelf.shelf
+    c.in_ok-shelf.world.world c.in_ok-shelf.ensures.begun c.hold_from.result (g.D.Desk.state c.hold_from.new.desk)
+    (omega (arith, c.if-held-quanta.false, c.quanta-held.ensures)) c.begin.ensures.moments.told c.hold_from.ensures.told
+
+pub returns-clause-small : goal.returns-clause-small
+returns-clause-small g c =
+    all_small c.args.setup.now c.args.quanta c.args.every (g.D.Desk.state c.args.desk.now) (g.D.Desk.state c.begin.new.desk) c.in_ok-shelf.shelf
+    c.in_ok-shelf.world.world c.in_ok-shelf.ensures.begun c.hold_from.result c.hold_from.ensures.small
+
+pub returns-clause-refused : goal.returns-clause-refused
+returns-clause-refused g c =
+    refused_then c.args.setup.now c.args.quanta c.args.every (g.D.Desk.state c.args.desk.now) (g.D.Desk.state c.begin.new.desk) c.in_ok-shelf.shelf
+    c.in_ok-shelf.world.world c.in_ok-shelf.ensures.begun c.hold_from.result c.hold_from.ensures.large
+
+pub returns-clause-quiet : goal.returns-clause-quiet
+returns-clause-quiet g c =
+    went_on_unrefused c.args.setup.now c.args.quanta c.args.every (g.D.Desk.state c.args.desk.now) (g.D.Desk.state c.begin.new.desk) c.in_ok-shelf.shelf
+    c.in_ok-shelf.world.world c.in_ok-shelf.ensures.begun (g.D.Desk.state c.hold_from.new.desk)
+    (omega (arith, c.if-held-quanta.false, c.quanta-held.ensures))
+
+pub returns-clause-moments : goal.returns-clause-moments
+returns-clause-moments g c =
+    whole_time c.args.setup.now c.args.quanta c.args.every (g.D.Desk.state c.args.desk.now) (g.D.Desk.state c.begin.new.desk) c.in_ok-shelf.shelf
+    c.in_ok-shelf.world.world c.in_ok-shelf.ensures.begun (g.D.Desk.state c.hold_from.new.desk) c.begin.ensures.moments c.hold_from.ensures.moments

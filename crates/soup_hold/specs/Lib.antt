@@ -1,0 +1,4 @@
+pub mod Text
+pub mod Holding
+pub mod Stops
+pub mod Steps
