@@ -117,7 +117,8 @@ impl Blocks {
         requires room { 0 < self.old.spare }
         ensures free { self.new.free ≡ runs_of self.old.size (λ p. is_in_some self.old.free p && not (is_in block p)) }
         ensures size { self.new.size ≡ self.old.size }
-        ensures room { self.old.spare ≤ self.new.spare + 1 }
+        ensures room { length self.new.free + self.new.spare ≡ length self.old.free + self.old.spare }
+        ensures spare { self.old.spare ≤ self.new.spare + 1 }
     {
         take_out(&mut self.free, block);
         self.filled += block.size;
@@ -130,7 +131,8 @@ impl Blocks {
         requires room { 0 < self.old.spare }
         ensures free { self.new.free ≡ runs_of self.old.size (λ p. is_in_some self.old.free p || is_in block p) }
         ensures size { self.new.size ≡ self.old.size }
-        ensures room { self.old.spare ≤ self.new.spare + 1 }
+        ensures room { length self.new.free + self.new.spare ≡ length self.old.free + self.old.spare }
+        ensures spare { self.old.spare ≤ self.new.spare + 1 }
     {
         put_in(&mut self.free, block);
         self.filled -= block.size;

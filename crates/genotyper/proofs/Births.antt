@@ -1,6 +1,6 @@
 -- The genotypes after the first birth of one.
 use Rattle.std.proofs.Common.{◌≡◌, ℕ, zero, suc, ◌+◌, ◌<◌, ◌≤◌, Bool, true, false, cond, List, [], ◌∷◌, ◌++◌, refl, sym, ◌∙◌, ap, subst, arith, slice_get, length, length-append, inl, inr}
-use Rattle.std.specs.Prelude.{All, None, Option, Some, option_map, if◌then◌else◌, ◌==◌, ◌⊎◌, nat_lt, not}
+use Rattle.std.specs.Prelude.{All, IfSome, None, Option, Some, option_map, if◌then◌else◌, ◌==◌, ◌⊎◌, nat_lt, not}
 use Rattle.std.specs.List.{position, position_or_len}
 use Rattle.std.specs.Map.{keys_of, values_of}
 use Rattle.indexmap.specs.IndexMap.{insert_entry}
@@ -10,7 +10,7 @@ use Rattle.std.proofs.lemmas.Bool.Decides.{nat_tests}
 use Rattle.tierra_model.specs.Counting.{one_if}
 use Rattle.tierra_model.specs.Genebank.{number_before}
 use Rattle.tierra_model.specs.Individuals.{genotype_number, with_individual, with_one_more}
-use Rattle.tierra_model.specs.World.{Genotype}
+use Rattle.tierra_model.specs.World.{Genotype, genotype_at}
 use Rattle.genotyper.specs.declared.genotypes.Details.{Details}
 use Rattle.genotyper.specs.Genotypes.{IsRanked, genotype_of, genotypes_of}
 use Rattle.genotyper.proofs.Writes.{Entries, Entry, genotypes-with_one_more, ranked-written, same_entry}
@@ -152,13 +152,25 @@ pub with_individual-again : (gs : List Genotype) (code : List ℕ) (parent : Opt
 unfolding with_individual
 with_individual-again gs code parent q k h = rw (h, with_individual)
 
--- a bound on the totals is one on what is kept
-pub total_lt : (es : Entries) (i n : ℕ) (d : Details) → slice_get (values_of es) i ≡ Some d → All (λ g. g.total < n) (genotypes_of es) → d.total < n
+-- a bound on a genotype's total is one on what is kept of it
+pub total_lt : (es : Entries) (i n : ℕ) (d : Details) → slice_get (values_of es) i ≡ Some d → (genotype_at (genotypes_of es) i).total < n → d.total < n
 total_lt [] i n d at h = cc
 total_lt (x ∷ xs) zero n d at h =
     let same : x.1 ≡ d = cc in
-    omega (arith, All-head (λ (g : Genotype). g.total < n) (genotype_of x) (genotypes_of xs) h, ap (λ (y : Details). y.total) same)
-total_lt (x ∷ xs) (suc i) n d at h = total_lt xs i n d at (All-tail (λ (g : Genotype). g.total < n) (genotype_of x) (genotypes_of xs) h)
+    omega (arith, h, ap (λ (y : Details). y.total) same)
+total_lt (x ∷ xs) (suc i) n d at h = total_lt xs i n d at h
+
+-- a bound on all totals is one on that of a code
+pub total_of_code : (code : List ℕ) (gs : List Genotype) (n : ℕ) → All (λ g. g.total < n) gs
+    → IfSome (genotype_number code gs) (λ k. (genotype_at gs k).total < n)
+total_of_code code [] n h = tt
+total_of_code code (g ∷ gs) n h = go (bytes_eq g.code code) (genotype_number code gs) (total_of_code code gs n (All-tail (λ (g : Genotype). g.total < n) g gs h))
+  where
+    go : (b : Bool) (o : Option ℕ) → IfSome o (λ k. (genotype_at gs k).total < n)
+        → IfSome (if b then Some 0 else option_map suc o) (λ k. (genotype_at (g ∷ gs) k).total < n)
+    go true o r = All-head (λ (g : Genotype). g.total < n) g gs h
+    go false None r = tt
+    go false (Some k) r = r
 
 -- the same by equations
 pub ranked-first : (es fs : Entries) (count more : ℕ → ℕ) (code : List ℕ) (d : Details) (size : ℕ) → fs ≡ es ++ (code, d) ∷ [] → IsRanked es count

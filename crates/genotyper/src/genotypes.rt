@@ -212,7 +212,7 @@ impl Genotypes {
     pub fn note_birth(&mut self, code: Code, parent: Option<u64>, q: u64) -> u64
         requires room { 0 < self.old.spare }
         requires code { IsCode code }
-        requires counts { All (λ g. g.total < 2 ^ 60) self.old.genotypes }
+        requires count { IfSome (genotype_number code self.old.genotypes) (λ k. (genotype_at self.old.genotypes k).total < 2 ^ 60) }
         ensures genotypes { self.new.genotypes ≡ (with_individual self.old.genotypes code parent q).0 }
         ensures number { result ≡ (with_individual self.old.genotypes code parent q).1 }
         ensures room { self.old.spare ≤ self.new.spare + 1 }
@@ -229,7 +229,7 @@ impl Genotypes {
     #[tactic(auto, using(crate::proofs::Births::again))]
     fn note_again(&mut self, number: u64)
         requires there { number < length self.old.genotypes }
-        requires counts { All (λ g. g.total < 2 ^ 60) self.old.genotypes }
+        requires count { (genotype_at self.old.genotypes number).total < 2 ^ 60 }
         ensures genotypes { self.new.genotypes ≡ with_one_more number self.old.genotypes }
         ensures room { self.new.spare ≡ self.old.spare }
     {

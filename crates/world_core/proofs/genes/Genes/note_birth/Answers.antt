@@ -1,4 +1,7 @@
-use Rattle.std.proofs.Common.{◌<◌, ℕ, List, length, subst, sym}
+use Rattle.std.proofs.Common.{◌<◌, ◌^◌, ℕ, List, length, subst, sym}
+use Rattle.std.specs.Prelude.{All}
+use Rattle.genotyper.proofs.Births.{total_of_code}
+use Rattle.world_core.specs.Savings.{GenesFields}
 use Rattle.tierra_model.specs.World.{Genotype}
 use Rattle.tierra_model.specs.Individuals.{with_individual}
 use Rattle.world_core.proofs.Numbered.{number_among}
@@ -20,3 +23,8 @@ first_effort-requires c = among ((goal.at.first_effort-requires c).After-note_bi
 
 pub second_effort-requires : goal.second_effort-requires
 second_effort-requires c = among ((goal.at.second_effort-requires c).After-note_birth-genotype)
+
+pub note_birth-genotype-requires-clause-count : goal.note_birth-genotype-requires-clause-count
+note_birth-genotype-requires-clause-count c =
+    total_of_code c.args.code c.self.inside.genotypes.genotypes (2 ^ 60)
+    (subst (λ (v : GenesFields). All (λ g. g.total < 2 ^ 60) v.genotypes) (sym c.self.view_is) c.requires.counts)
