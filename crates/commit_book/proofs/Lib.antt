@@ -6,4 +6,5 @@ pub mod Committing
 pub mod Keeping
 pub mod Claiming
 pub mod SettingsLemmas
+mod YardLemmas
 pub mod ShownLemmas

@@ -93,8 +93,7 @@ fn lead_round<R: Wait, G: Gate>(
     let worker = seat.caller();
     let quantum = job.quantum();
     gate.before(worker, quantum);
-    let finding = finding_of(workspace, &job);
-    drop(job);
+    let finding = finding_of(workspace, job);
     let offers = finding.is_some();
     let turned = lead_turn(rt, alloc, lock, seat, finding, done, kept);
     if offers {

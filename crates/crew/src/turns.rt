@@ -16,9 +16,10 @@ use step_count::Steps;
 use tierra_model::{Groups, OutOfMemory};
 use turn_lock::{Seat, TurnLock};
 
-// The finding of a job, where there is memory for it.
-pub(crate) fn finding_of(workspace: &mut Workspace, job: &Job) -> Option<Finding> {
-    counted_finding::<Brand>(workspace, job, Blank::new(1))
+// The finding of a job, where there is memory for it. The job may have brought some.
+pub(crate) fn finding_of(workspace: &mut Workspace, mut job: Job) -> Option<Finding> {
+    workspace.take_room(&mut job);
+    counted_finding::<Brand>(workspace, &job, Blank::new(1))
 }
 
 // The same, with an account of the instructions that only contracts see.

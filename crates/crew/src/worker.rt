@@ -29,8 +29,7 @@ fn round<R: Wait, G: Gate>(
     let worker = seat.caller();
     let quantum = job.quantum();
     gate.before(worker, quantum);
-    let finding = finding_of(workspace, &job);
-    drop(job);
+    let finding = finding_of(workspace, job);
     let offers = finding.is_some();
     let turned = turn(rt, alloc, lock, seat, finding);
     if offers {

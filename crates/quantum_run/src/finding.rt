@@ -3,7 +3,7 @@
 ghost use Rattle.std.specs.Prelude.{◌≡◌, IfOk};
 
 use crate::job::Job;
-use crate::scratch::Notes;
+use crate::scratch::Room;
 use read_sets::Reads;
 use std::alloc::Global;
 use std::marker::Model;
@@ -28,15 +28,22 @@ pub(crate) struct Records {
 }
 
 impl Records {
-    /// Room for the records of a job.
-    pub(crate) fn room(alloc: Global, job: &Job) -> Result<Box<Records>, OutOfMemory> {
+    /// Memory for the records of a job: the one that is there, or new memory.
+    pub(crate) fn place(
+        alloc: Global,
+        job: &Job,
+        there: Option<Box<Records>>,
+    ) -> Result<Box<Records>, OutOfMemory> {
+        if let Some(place) = there {
+            return Ok(place);
+        }
         let records = Records {
             settings: *job.settings(),
             before: *job.front(),
             after: *job.front(),
         };
-        let room = Box::new(alloc, records)?;
-        Ok(room)
+        let place = Box::new(alloc, records)?;
+        Ok(place)
     }
 }
 
@@ -61,12 +68,12 @@ impl Finding {
         reads: Reads,
         events: EventList,
         after: Creature,
-        room: Box<Records>,
+        place: Box<Records>,
     ) -> Finding
         requires { Kept (record { settings = settings; quantum = quantum; before = before; reads = reads.reads; events = events; after = after }) }
         ensures { result ≡ record { settings = settings; quantum = quantum; before = before; reads = reads.reads; events = events; after = after } }
     {
-        let mut records = room;
+        let mut records = place;
         *records = Records {
             settings,
             before,
@@ -80,11 +87,14 @@ impl Finding {
         }
     }
 
-    // The room of what was noted.
-    pub(crate) fn into_notes(self) -> Notes {
-        Notes {
-            reads: self.reads,
+    // Its memory. The lists that it shares are let go.
+    pub(crate) fn into_room(self) -> Room {
+        let mut reads = self.reads;
+        reads.clear();
+        Room {
+            reads,
             events: self.events.items,
+            records: Some(self.records),
         }
     }
 

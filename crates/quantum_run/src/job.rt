@@ -5,6 +5,7 @@ ghost use Rattle.std.specs.Arc.{arc_value};
 ghost use Rattle.tierra_model.specs.Scene.{Scene};
 ghost use Rattle.quantum_run.specs.Jobs.{OfSoundWorld};
 
+use crate::scratch::Room;
 use soup_cells::Version;
 use std::marker::Model;
 use std::sync::Arc;
@@ -20,6 +21,8 @@ pub struct Job {
     cells: Version,
     free: Arc<FreeList>,
     yard: Arc<Yard>,
+    // memory for its finding, which no contract sees
+    room: Option<Room>,
 }
 
 impl Model for Job {
@@ -56,7 +59,24 @@ impl Job {
             cells,
             free,
             yard,
+            room: None,
         }
+    }
+
+    // The same job, with memory for its finding.
+    pub(crate) fn with_room(self, room: Option<Room>) -> Job
+        ensures { result ≡ self }
+    {
+        let mut job = self;
+        job.room = room;
+        job
+    }
+
+    // Gives up the memory for its finding.
+    pub(crate) fn take_room(&mut self) -> Option<Room>
+        ensures { self.new ≡ self.old }
+    {
+        self.room.take()
     }
 
     pub(crate) fn settings(&self) -> &Settings

@@ -9,7 +9,7 @@ mod on_scene;
 mod scratch;
 mod standings;
 mod workspace;
-mod yard;
+pub mod yard;
 
 pub use finding::Finding;
 pub use job::Job;

@@ -7,7 +7,7 @@ use crate::cells::{Cells, Mark};
 use crate::finding::{Finding, Records};
 use crate::free_cells::FreeCells;
 use crate::job::Job;
-use crate::scratch::{Copies, Notes};
+use crate::scratch::{Copies, Room};
 use crate::standings::Standings;
 use crate::yard::first_other;
 use mutation_streams::Draws;
@@ -78,7 +78,7 @@ impl<'a> OnScene<'a> {
         marks: Vec<Mark>,
         turn: u32,
         copies: Copies,
-        notes: Notes,
+        room: Room,
     ) -> Result<OnScene<'a>, OutOfMemory>
         requires few { slice ≤ 10000 }
         requires size { length marks.items ≡ job.now.settings.soup_size }
@@ -92,7 +92,7 @@ impl<'a> OnScene<'a> {
         let more = 4 * slice + 1;
         let yard = Standings::begin(job.standings(), copies.yard, more)?;
         let free = FreeCells::begin(job.free(), size, copies.free, 2 * living + more)?;
-        let notes = notes.emptied(size, living + more)?;
+        let room = room.emptied(size, living + more)?;
         Ok(OnScene {
             job,
             front,
@@ -100,11 +100,11 @@ impl<'a> OnScene<'a> {
                 job.cells(),
                 marks,
                 turn,
-                notes.reads,
+                room.reads,
                 front.own,
                 front.daughter,
             ),
-            events: notes.events,
+            events: room.events,
             free,
             yard,
             free_noted: false,
@@ -119,7 +119,7 @@ impl<'a> OnScene<'a> {
         self,
         free: Arc<FreeList>,
         yard: Arc<Yard>,
-        room: Box<Records>,
+        place: Box<Records>,
     ) -> (Finding, Vec<Mark>, u32, Copies)
         requires free { arc_value free ≡ self.run.start.free }
         requires yard { arc_value yard ≡ self.run.start.yard }
@@ -142,7 +142,7 @@ impl<'a> OnScene<'a> {
             reads,
             events,
             self.front,
-            room,
+            place,
         );
         let copies = Copies {
             free: self.free.into_own(),

@@ -3,6 +3,7 @@
 ghost use Rattle.std.specs.Prelude.{◌≡◌, ◌≤◌, [], IfOk, vec_capacity, vec_len};
 ghost use Rattle.read_sets.specs.Noted.{nothing};
 
+use crate::finding::Records;
 use block_alloc::Blocks;
 use read_sets::Reads;
 use std::alloc::Global;
@@ -24,23 +25,25 @@ impl Copies {
     }
 }
 
-/// Room for what a quantum notes. It goes out in the finding.
+/// The memory of a finding. It goes out with a job, and comes back once the finding is done with.
 #[derive(Drop)]
-pub(crate) struct Notes {
+pub(crate) struct Room {
     pub(crate) reads: Reads,
     pub(crate) events: Vec<Event>,
+    pub(crate) records: Option<Box<Records>>,
 }
 
-impl Notes {
-    pub(crate) fn new(alloc: Global) -> Notes {
-        Notes {
+impl Room {
+    pub(crate) fn new(alloc: Global) -> Room {
+        Room {
             reads: Reads::empty(alloc),
             events: Vec::new(alloc),
+            records: None,
         }
     }
 
     /// Nothing is noted, and there is room for so many cells and events.
-    pub(crate) fn emptied(self, cells: u32, events: u32) -> Result<Notes, OutOfMemory>
+    pub(crate) fn emptied(self, cells: u32, events: u32) -> Result<Room, OutOfMemory>
         ensures reads { IfOk result (λ n. n.reads.reads ≡ nothing) }
         ensures cells { IfOk result (λ n. cells ≤ n.reads.spare) }
         ensures none { IfOk result (λ n. n.events.items ≡ []) }
@@ -53,9 +56,10 @@ impl Notes {
         reads.reserve(cells)?;
         happened.clear();
         happened.reserve(events as usize)?;
-        Ok(Notes {
+        Ok(Room {
             reads,
             events: happened,
+            records: self.records,
         })
     }
 }

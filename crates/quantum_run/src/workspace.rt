@@ -11,7 +11,7 @@ use crate::cells::{Mark, UNMARKED};
 use crate::finding::{Finding, Records};
 use crate::job::Job;
 use crate::on_scene::OnScene;
-use crate::scratch::{Copies, Notes};
+use crate::scratch::{Copies, Room};
 use quantum_core::run_slice;
 use slicer_queue::slice_of;
 use std::alloc::Global;
@@ -20,14 +20,14 @@ use std::sync::ledger::Ledger;
 use step_count::Steps;
 use tierra_model::OutOfMemory;
 
-/// What a worker keeps from one quantum to the next: a mark for each cell, none of a turn to come, and the room of the
-/// lists. So in the long run no quantum takes memory whose finding's room comes back.
+/// What a worker keeps from one quantum to the next: a mark for each cell, none of a turn to come, and the memory of the
+/// lists and of findings that are done with. So in the long run no quantum takes memory.
 #[derive(Drop)]
 pub struct Workspace {
     marks: Vec<Mark>,
     turn: u32,
     copies: Copies,
-    notes: Notes,
+    rooms: Vec<Room>,
     ghost kept: { All (NotAfter turn) marks.items },
 }
 
@@ -38,7 +38,7 @@ impl Workspace {
             marks: Vec::new(alloc),
             turn: 0,
             copies: Copies::new(alloc),
-            notes: Notes::new(alloc),
+            rooms: Vec::new(alloc),
         }
     }
 
@@ -58,19 +58,20 @@ impl Workspace {
         let slice = slice_of(job.front().own.size, settings);
         let free = job.share_free()?;
         let yard = job.share_yard()?;
-        let room = Records::room(alloc, job)?;
+        let mut room = self.next_room();
+        let place = Records::place(alloc, job, room.records.take())?;
         let (marks, turn) = self.take_marks(settings.soup_size)?;
         let copies = mem::replace(&mut self.copies, Copies::new(alloc));
-        let notes = mem::replace(&mut self.notes, Notes::new(alloc));
-        let mut scene = OnScene::new(job, slice, marks, turn, copies, notes)?;
+        let mut scene = OnScene::new(job, slice, marks, turn, copies, room)?;
+        let rooms = mem::replace(&mut self.rooms, Vec::new(alloc));
         match run_slice(&mut scene, settings, job.quantum(), slice, steps) {
             Ok(()) => {
-                let (finding, marks, turn, copies) = scene.into_finding(free, yard, room);
+                let (finding, marks, turn, copies) = scene.into_finding(free, yard, place);
                 *self = Workspace {
                     marks,
                     turn,
                     copies,
-                    notes: Notes::new(alloc),
+                    rooms,
                 };
                 Ok(finding)
             }
@@ -93,11 +94,39 @@ impl Workspace {
         Ok((marks, 1))
     }
 
-    /// Takes back the room of a finding that is done with.
+    // Memory for a finding, none of which is taken where none is kept.
+    fn next_room(&mut self) -> Room {
+        let alloc = *self.marks.allocator();
+        match self.rooms.pop() {
+            Some(room) => room,
+            None => Room::new(alloc),
+        }
+    }
+
+    /// Keeps the memory of a finding that is done with.
     pub fn keep_room(&mut self, finding: Finding) {
-        let mut notes = finding.into_notes();
-        notes.reads.clear();
-        self.notes = notes;
+        self.put_room(finding.into_room());
+    }
+
+    /// Gives the job memory for its finding, if some is kept. The job is the same otherwise.
+    pub fn lend_room(&mut self, job: Job) -> Job
+        ensures { result ≡ job }
+    {
+        job.with_room(self.rooms.pop())
+    }
+
+    /// Keeps the memory that a job brings for its finding. The job is the same otherwise.
+    pub fn take_room(&mut self, job: &mut Job)
+        ensures { job.new ≡ job.old }
+    {
+        if let Some(room) = job.take_room() {
+            self.put_room(room);
+        }
+    }
+
+    // Where there is no memory to keep it, the room is let go.
+    fn put_room(&mut self, room: Room) {
+        let _kept: Result<_, _> = self.rooms.push(room);
     }
 }
 

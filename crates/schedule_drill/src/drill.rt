@@ -1,6 +1,7 @@
 //! Schedules are played.
 
 ghost use Rattle.std.specs.Prelude.{◌≡◌, ◌+◌, ◌-◌, ◌<◌, ◌≤◌, ◌^◌, [], All, IfOk, OnOk, Some};
+ghost use Rattle.tierra_model.specs.Findings.{finding_of};
 ghost use Rattle.commit_book.specs.Books.{after_commits, world_of};
 ghost use Rattle.schedule_drill.specs.AtBook.{FitsBook, IsOfRun, answers};
 ghost use Rattle.schedule_drill.specs.Drill.{after_advance, after_move, after_offer, drill, first_drill, tally_of, to_the_end};
@@ -10,7 +11,7 @@ ghost use Rattle.schedule_drill.specs.Moves.{IsOfHand};
 use crate::moves::{Move, MoveList};
 use crate::tally::{Answered, Tally, fresh_of, missing_of, stale_of};
 use commit_book::{Advanced, Book, Claim, Offered};
-use quantum_run::{Finding, Workspace};
+use quantum_run::{Finding, Job, Workspace};
 use std::alloc::{AllocError, Global};
 use std::marker::{Brand, Model};
 use std::sync::ledger::{Blank, Ledger};
@@ -159,7 +160,7 @@ impl Drill {
         }
         keeps_settings(&self.book);
         match self.book.claim(alloc) {
-            Claim::Job(job) => self.hands[place] = Some(self.workspace.run(&job, steps)?),
+            Claim::Job(job) => self.hands[place] = Some(run_job(&mut self.workspace, job, steps)?),
             Claim::Full => self.answered.full += 1,
             Claim::Ended => self.answered.idle += 1,
             Claim::Stopped => unreachable!(),
@@ -332,4 +333,16 @@ fn tally(book: &Book, answered: Answered) -> Tally
         full: answered.full,
         idle: answered.idle,
     }
+}
+
+// What the job's quantum finds. The job may have brought memory for that.
+fn run_job<L: Ledger>(
+    workspace: &mut Workspace,
+    mut job: Job,
+    steps: &mut Steps<L>,
+) -> Result<Finding, OutOfMemory>
+    ensures { IfOk result (λ f. f ≡ finding_of job) }
+{
+    workspace.take_room(&mut job);
+    workspace.run(&job, steps)
 }

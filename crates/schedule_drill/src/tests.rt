@@ -9,7 +9,8 @@ use serial_slicer::run_serial;
 use soup_file::read_setup;
 use std::alloc::Global;
 use std::test::Fail;
-use tierra_model::{OutOfMemory, Setup, Text};
+use tierra_model::{Now, OutOfMemory, Setup, Text};
+use world_core::World;
 
 /// Creature 1 copies its second cell over its first, and creature 2 does nothing until it runs into creature 1.
 const TWO: &str = r#"
@@ -142,6 +143,127 @@ fn schedules_by_hand(rt: HostRuntime) -> Result<(), Fail> {
     ];
     for (moves, tally) in rows {
         assert_eq!(rt; played(rt.alloc(), moves)?, (tally, true));
+    }
+    Ok(())
+}
+
+/// In one slice creature 1 takes a block, copies, errs, gives the block up, lets creature 2 die for a greater one, copies
+/// and breeds.
+const EACH_EVENT: &str = r#"
+soup_size = 100
+slice_size = 14
+mal_mult = 100
+fill_percent = 100
+move_percent = 0
+[[creature]]
+at = 0
+code = "zero or1 shl shl shl shl mal mov_iab jmp shl shl mal mov_iab divide"
+[[creature]]
+at = 50
+code = "nop_1 nop_1 nop_1"
+"#;
+
+/// Creature 1 copies its first cell over itself a thousand times in one slice.
+const THOUSAND_WRITES: &str = r#"
+soup_size = 100
+slice_size = 2001
+[[creature]]
+at = 0
+code = "nop_1 mov_iab jmpb nop_0 zero"
+"#;
+
+/// The births, the deaths, the cells that are owned, and the address of the front creature.
+fn counts_of(world: &World) -> [u64; 4] {
+    let ip = u64::from(world.front().ip);
+    [
+        world.births(),
+        world.deaths(),
+        u64::from(world.filled()),
+        ip,
+    ]
+}
+
+/// The cells that are not 0, each with its place.
+fn cells_of(alloc: Global, world: &World) -> Result<Vec<(u32, u8)>, OutOfMemory> {
+    let mut cells = Vec::new(alloc);
+    for at in 0..world.settings().soup_size {
+        let value = world.cell(at);
+        if value != 0 {
+            cells.push((at, value))?;
+        }
+    }
+    Ok(cells)
+}
+
+/// The reaper queue, and the errors of each.
+fn queue_of(alloc: Global, world: &World) -> Result<Vec<(u64, u64)>, OutOfMemory> {
+    let mut queue = Vec::new(alloc);
+    for place in 0..world.yard_len() {
+        let standing = world.standing(place);
+        queue.push((standing.id, standing.errors))?;
+    }
+    Ok(queue)
+}
+
+/// What is committed of the first quantum of a soup file: the counts, the cells and the queue.
+fn committed(
+    alloc: Global,
+    file: &str,
+    moves: &str,
+) -> Result<([u64; 4], Vec<(u32, u8)>, Vec<(u64, u64)>), Fail> {
+    let setup = read_setup(alloc, file.as_bytes())?;
+    let moves = moves_of(alloc, moves)?;
+    let played = play(alloc, setup, 1, &moves)?;
+    let world = played.book.world();
+    Ok((
+        counts_of(world),
+        cells_of(alloc, world)?,
+        queue_of(alloc, world)?,
+    ))
+}
+
+// The quantum is run by the hand, or by the book.
+#[test]
+fn a_quantum_of_each_event_is_committed(rt: HostRuntime) -> Result<(), Fail> {
+    let alloc = rt.alloc();
+    let want = [
+        (0, 4),
+        (1, 2),
+        (2, 3),
+        (3, 3),
+        (4, 3),
+        (5, 3),
+        (6, 30),
+        (7, 26),
+        (8, 20),
+        (9, 3),
+        (10, 3),
+        (11, 30),
+        (12, 26),
+        (13, 31),
+        (14, 4), // the copy
+        (50, 1), // the dead lie there still
+        (51, 1),
+        (52, 1),
+    ];
+    for moves in ["", "c1 o1"] {
+        let (counts, cells, queue) = committed(alloc, EACH_EVENT, moves)?;
+        assert_eq!(rt; counts, [1, 1, 78, 14], "{moves}");
+        assert_eq!(rt; cells.as_slice(), want.as_slice(), "{moves}");
+        assert_eq!(rt; queue.as_slice(), [(1, 1), (3, 0)].as_slice(), "{moves}");
+    }
+    Ok(())
+}
+
+#[test]
+fn a_quantum_of_a_thousand_writes_is_committed(rt: HostRuntime) -> Result<(), Fail> {
+    let alloc = rt.alloc();
+    let want = [(0, 1), (1, 26), (2, 21), (4, 4)];
+    for moves in ["", "c1 o1"] {
+        let (counts, cells, queue) = committed(alloc, THOUSAND_WRITES, moves)?;
+        assert_eq!(rt; counts, [0, 0, 5, 1], "{moves}");
+        assert_eq!(rt; cells.as_slice(), want.as_slice(), "{moves}");
+        assert_eq!(rt; queue.as_slice(), [(1, 0)].as_slice(), "{moves}");
     }
     Ok(())
 }

@@ -1,0 +1,118 @@
+-- The yard of a world, after an event that bears nobody.
+use Rattle.std.proofs.Common.{◌≡◌, ℕ, suc, ◌+◌, ◌∷◌, ◌^◌, ◌<◌, ◌≤◌, List, [], refl, sym, ◌∙◌, ap, subst, arith, length, inl, inr}
+use Rattle.std.specs.Prelude.{Option, None, Some, if◌then◌else◌, map, remove, ◌==◌}
+use Rattle.std.proofs.lemmas.Bool.Decides.{leb_tells}
+use Rattle.tierra_model.specs.declared.creatures.Creature.{Creature}
+use Rattle.tierra_model.specs.declared.creatures.Standing.{Standing}
+use Rattle.tierra_model.specs.declared.events.Event.{Event}
+use Rattle.tierra_model.specs.declared.events.Event.TheVariants as event
+use Rattle.tierra_model.specs.Counting.{times_in}
+use Rattle.tierra_model.specs.Events.{apply_event, record_after}
+use Rattle.tierra_model.specs.Living.{ids_of, one_of}
+use Rattle.tierra_model.specs.Queue.{error_move, good_move}
+use Rattle.tierra_model.specs.Replay.{CanHappen}
+use Rattle.tierra_model.specs.Scene.{Scene, apply_in_scene}
+use Rattle.tierra_model.specs.SceneRun.{births_of}
+use Rattle.tierra_model.specs.World.{World, front}
+use Rattle.tierra_model.specs.Yard.{standing, with_standing, yard}
+use Rattle.tierra_model.proofs.EventEffects.{next_birth-event}
+use Rattle.tierra_model.proofs.Living.{one_of-id}
+use Rattle.tierra_model.proofs.Owners.{is_here-times}
+use Rattle.tierra_model.proofs.SceneYards.{yard-event}
+use Rattle.tierra_model.proofs.Shares.{Shares}
+use Rattle.tierra_model.proofs.Yards.{map-cong-in, renamed, renamed-old, stands_as}
+use Rattle.quantum_run.proofs.Yarding.{remove-is}
+use Rattle.world_core.specs.Running.{IsRunning}
+use Rattle.world_core.proofs.Within.{each_once, front_here, front_is, has_front}
+use Rattle.commit_book.specs.Shown.{yard_after}
+
+length-map : {X Y : Type 0} (f : X → Y) (xs : List X) → length (map f xs) ≡ length xs
+length-map f [] = refl
+length-map f (x ∷ xs) = ap (λ (n : ℕ). suc n) (length-map f xs)
+
+-- ---- numbers
+
+-- who lives has a number below the next one
+id-below : (w : World) → IsRunning w → (id : ℕ) → 0 < times_in (ids_of w.living) id → id < w.next_birth
+id-below w r id here = elim (leb_tells w.next_birth id) [
+  | inl e ↦ absurd (omega (arith, r.fresh id e.1, here))
+  | inr e ↦ omega (arith, e.1)
+]
+
+-- each of the living stands under its own number
+yard-as : (w : World) (n : ℕ) → IsRunning w → w.next_birth ≤ n → yard w ≡ map (stands_as n w.living) w.reaper
+yard-as w n r le =
+    map-cong-in (λ id. standing (one_of w.living id)) (stands_as n w.living) w.reaper (λ id there.
+    let here : 0 < times_in (ids_of w.living) id = subst (λ (k : ℕ). 0 < k) (r.reaper id) there in
+    let number : (one_of w.living id).id ≡ renamed n id =
+    one_of-id w.living id (is_here-times w.living id here) ∙ sym (renamed-old n id (omega (arith, id-below w r id here, le))) in
+    (λ i. let x : Standing = record (standing (one_of w.living id)) { id = number i } in x))
+
+-- ---- what a yard shows
+
+-- a record's standing alone counts
+shown-same : (c d : Creature) (standings : List Standing) → standing c ≡ standing d → with_standing c standings ≡ with_standing d standings
+shown-same c d standings e = ap (λ (s : Standing). map (λ x. if x.id == s.id then s else x) standings) e
+
+pub standing-after : (e : Event) (c d : Creature) → standing c ≡ standing d → standing (record_after e c) ≡ standing (record_after e d)
+standing-after (event.Write at value) c d h = h
+standing-after event.Err c d h = ap (λ (s : Standing). record s { errors = s.errors + 1 }) h
+standing-after event.Good c d h = h
+standing-after event.GiveUp c d h = ap (λ (s : Standing). record s { daughter = None }) h
+standing-after (event.Mal at size) c d h = ap (λ (s : Standing). record s { daughter = Some (record { at = at; size = size }) }) h
+standing-after (event.Reap place) c d h = h
+standing-after (event.Divide ran moved) c d h = ap (λ (s : Standing). record s { daughter = None }) h
+
+-- a yard after an event, with the record of which the standing alone is known
+after-same : (e : Event) (c d : Creature) (standings : List Standing) → standing c ≡ standing d → yard_after e c standings ≡ yard_after e d standings
+after-same (event.Write at value) c d standings h = refl
+after-same event.Err c d standings h =
+    ap (λ (s : Standing). let o : Option (List Standing) = Some (error_move (λ x. x.id == s.id) (λ x. x.errors) (map (λ x. if x.id == s.id then s else x) standings)) in o) h
+after-same event.Good c d standings h =
+    ap (λ (s : Standing). let o : Option (List Standing) = Some (good_move (λ x. x.id == s.id) (λ x. x.errors) standings) in o) h
+after-same event.GiveUp c d standings h = ap (λ (l : List Standing). Some l) (shown-same c d standings h)
+after-same (event.Mal at size) c d standings h = ap (λ (l : List Standing). Some l) (shown-same c d standings h)
+after-same (event.Reap place) c d standings h = refl
+after-same (event.Divide ran moved) c d standings h = refl
+
+-- ---- an event
+
+abbrev scene-with : World → List Standing → Scene
+scene-with w standings = record { settings = w.settings; quanta = w.quanta; front = front w; soup = w.soup; free = []; yard = standings }
+
+-- it is the yard of the scene in which the event happens
+in-scene : (w : World) (e : Event) (standings now : List Standing) → length standings ≡ length w.reaper → CanHappen w e
+    → Some now ≡ yard_after e (record_after e (front w)) standings → now ≡ (apply_in_scene 0 (scene-with w standings) e).yard
+unfolding apply_in_scene
+in-scene w (event.Write at value) standings now len c is = cc
+in-scene w event.Err standings now len c is = cc
+in-scene w event.Good standings now len c is = cc
+in-scene w event.GiveUp standings now len c is = cc
+in-scene w (event.Mal at size) standings now len c is = cc
+in-scene w (event.Reap place) standings now len c is =
+    let removed : now ≡ remove standings place = cc in
+    removed ∙ remove-is place standings (omega (arith, c.0, len))
+in-scene w (event.Divide ran moved) standings now len c is = absurd (let n : ⊥ = cc in n)
+
+no-birth : (e : Event) (c : Creature) (standings now : List Standing) → Some now ≡ yard_after e c standings → births_of e ≡ 0
+no-birth (event.Divide ran moved) c standings now is = absurd (let n : ⊥ = cc in n)
+no-birth (event.Write at value) c standings now is = refl
+no-birth event.Err c standings now is = refl
+no-birth event.Good c standings now is = refl
+no-birth event.GiveUp c standings now is = refl
+no-birth (event.Mal at size) c standings now is = refl
+no-birth (event.Reap place) c standings now is = refl
+
+pub yard-follows : (w : World) (e : Event) (c : Creature) (standings now : List Standing) → IsRunning w → IsRunning (apply_event w e) → CanHappen w e
+    → standing c ≡ standing (record_after e (front w)) → standings ≡ yard w → Some now ≡ yard_after e c standings → now ≡ yard (apply_event w e)
+yard-follows w e c standings now r r' can record_is was is =
+    let n : ℕ = w.next_birth in
+    let shown : standings ≡ map (stands_as n w.living) w.reaper = was ∙ yard-as w n r (omega arith) in
+    let len : length standings ≡ length w.reaper = ap length was ∙ length-map (λ id. standing (one_of w.living id)) w.reaper in
+    let own : Shares (front w) (front w) = record { id = refl; own = refl; daughter = refl; errors = refl; genotype = refl; bred = refl } in
+    let few : n < 2 ^ 60 = r.next_birth in
+    let alike = yard-event n 0 (scene-with w standings) w e (has_front w r) (each_once w r) can own (front_is w r)
+    (id-below w r (front w).id (front_here w r)) (omega (arith, few)) (omega arith) shown in
+    in-scene w e standings now len can (is ∙ after-same e c (record_after e (front w)) standings record_is)
+    ∙ alike
+    ∙ sym (yard-as (apply_event w e) n r' (omega (arith, next_birth-event w e can, no-birth e c standings now is)))
