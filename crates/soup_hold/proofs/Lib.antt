@@ -8,3 +8,4 @@ pub mod Refusing
 pub mod Whole
 pub mod Settled
 pub mod Together
+mod Stopping

@@ -13,9 +13,9 @@ use Rattle.soup_checkpoint.specs.Hold.{owner_of, title}
 use Rattle.soup_checkpoint.specs.Shelf.{SaysAsBefore, SaysSame, ShelfState}
 use Rattle.soup_hold.specs.declared.stop.HoldStop.{HoldStop}
 use Rattle.soup_hold.specs.declared.stop.HoldStop.TheVariants as stop
-use Rattle.soup_hold.specs.Holding.{CanHold, DiskHolds, GoesOnFrom, HoldsState, IsBeyond, IsEarly, IsFirst, IsHolding, IsHoldText, IsSmall, RefusesHold}
+use Rattle.soup_hold.specs.Holding.{AppendedLess, CanHold, DiskHolds, GoesOnFrom, HoldsState, IsBeyond, IsCutShort, IsEarly, IsFirst, IsHolding, IsHoldText, IsSmall, RefusesHold}
 use Rattle.soup_hold.specs.Steps.{Begins, IsLargeFirst}
-use Rattle.soup_hold.specs.Stops.{IfRefused}
+use Rattle.soup_hold.specs.Stops.{IfRefused, UnlessTelling}
 use Rattle.soup_hold.specs.Text.{held_quanta, hold_text, world_at}
 use Rattle.soup_hold.proofs.Refusing.{goes_on_no_further, not_fresh, one_beginning}
 use Rattle.soup_hold.proofs.Whole.{beginning_time, begins_there, going_on_time, too_large}
@@ -92,6 +92,24 @@ module _ (setup : SetupFields) (n every : ℕ) (old : DeskState) where
     part_told_then (Ok x) new within same tells = tt
     part_told_then (Err s) new within same tells =
         inr (text, tells.partly.0, is_text within, subst (λ (o : Option (List ℕ)). Appended o (take tells.partly.0 text) new.told) same tells.partly.1)
+
+    cut_short_now : (new : DeskState) → w.quanta ≤ n → mid.told ≡ old.told → AppendedLess mid.told text new.told
+        → IsCutShort setup n every old.reads old.told new.told
+    cut_short_now new within same less =
+        inr (text, is_text within, subst (λ (o : Option (List ℕ)). AppendedLess o text new.told) same less)
+
+    cut_short_by : (s : HoldStop) (new : DeskState) → w.quanta ≤ n → mid.told ≡ old.told
+        → UnlessTelling s (AppendedLess mid.told text new.told) → UnlessTelling s (IsCutShort setup n every old.reads old.told new.told)
+    cut_short_by stop.TellFault new within same less = tt
+    cut_short_by (stop.Refused f) new within same less = cut_short_now new within same less
+    cut_short_by stop.DiskFault new within same less = cut_short_now new within same less
+    cut_short_by stop.OutOfMemory new within same less = cut_short_now new within same less
+
+    pub cut_short_then : {T : Type 0} (r : Result T HoldStop) (new : DeskState) → w.quanta ≤ n → mid.told ≡ old.told
+        → IfErr r (λ s. UnlessTelling s (AppendedLess mid.told text new.told))
+        → IfErr r (λ s. UnlessTelling s (IsCutShort setup n every old.reads old.told new.told))
+    cut_short_then (Ok x) new within same less = tt
+    cut_short_then (Err s) new within same less = cut_short_by s new within same less
 
     pub all_small : {T : Type 0} (r : Result T HoldStop) → OnOk r (All (λ q. IsSmall (world_at w q)) (held_quanta every w.quanta n))
         → OnOk r (IfSome old.reads (λ file. CanHold setup n every (Some file)))

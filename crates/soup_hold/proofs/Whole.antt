@@ -1,5 +1,5 @@
 -- A whole run, from its file to its report.
-use Rattle.std.proofs.Common.{◌≡◌, ◌∙◌, ◌⊎◌, inl, inr, refl, sym, ap, subst, arith, ℕ, zero, suc, ◌-◌, List, [], ◌++◌, length, take, append-nil, Option, Some, None, Result, Ok}
+use Rattle.std.proofs.Common.{◌≡◌, ◌∙◌, ◌⊎◌, inl, inr, refl, sym, ap, subst, arith, ℕ, zero, suc, ◌-◌, ◌<◌, List, [], ◌++◌, length, take, append-nil, Option, Some, None, Result, Ok}
 use Rattle.std.specs.Prelude.{IfSome, IsSomeAnd}
 use Rattle.std.proofs.lemmas.List.{take_all}
 use Rattle.desk_io.specs.Desk.{Appended, DeskState, Elapses, Tells, UsesDisk}
@@ -31,6 +31,11 @@ pub last_report_is : (first w : World) (n : ℕ) (text : List ℕ) → text ≡ 
     → text ≡ last_report first n
 unfolding last_report
 last_report_is first w n text is same = is ∙ ap report same
+
+-- the report has bytes
+pub report_has_bytes : (first : World) (n : ℕ) → 0 < length (last_report first n)
+unfolding last_report
+report_has_bytes first n = omega arith
 
 module _ (owner : Owner) (first : World) (quanta : List ℕ) where
   abbrev Holding : List ℕ → Option (List ℕ) → List ℕ → List ℕ → Type 0

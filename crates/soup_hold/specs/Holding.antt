@@ -1,5 +1,6 @@
 -- What the file of a run that keeps checkpoints holds, what is told, and why a file is refused.
-use Rattle.std.specs.Prelude.{All, IfSome, List, None, Option, Some, Err, Ok, length, slice_get, suc, take, zero, ℕ, ◌++◌, ◌-◌, ◌<◌, ◌^◌, ◌≡◌, ◌≤◌}
+use Rattle.std.specs.Prelude.{All, IfSome, List, None, Option, Some, Err, Ok, length, slice_get, suc, take, zero, ℕ, ◌++◌, ◌-◌, ◌<◌, ◌^◌, ◌≡◌, ◌≤◌, ◌⊎◌}
+use Rattle.desk_io.specs.Desk.{Appended}
 use Rattle.soup_checkpoint.specs.declared.faults.HoldFault.{HoldFault}
 use Rattle.soup_checkpoint.specs.declared.faults.HoldFault.TheVariants as fault
 use Rattle.soup_checkpoint.specs.declared.owner.Owner.{Owner}
@@ -37,6 +38,15 @@ pub record IsHoldText (setup : SetupFields) (n every : ℕ) (file : Option (List
   pub goes_on : GoesOnFrom setup file first
   pub not_beyond : first.quanta ≤ n
   pub text_is : text ≡ hold_text first n every
+
+-- the text has the first bytes of the piece more, and lacks some
+abbrev pub AppendedLess : Option (List ℕ) → List ℕ → Option (List ℕ) → Type 0
+AppendedLess before piece now = (k : ℕ) × (k < length piece) × Appended before (take k piece) now
+
+-- nothing was told, or the first bytes of that text, of which some are lacking
+abbrev pub IsCutShort : SetupFields → ℕ → ℕ → Option (List ℕ) → Option (List ℕ) → Option (List ℕ) → Type 0
+IsCutShort setup n every file before now =
+    (now ≡ before) ⊎ ((text : List ℕ) × IsHoldText setup n every file text × AppendedLess before text now)
 
 -- ---- why a file is refused
 

@@ -19,6 +19,11 @@ IfRefused stop.DiskFault P = Unit {0}
 IfRefused stop.TellFault P = Unit {0}
 IfRefused stop.OutOfMemory P = Unit {0}
 
+-- at all but a tell that failed
+abbrev pub UnlessTelling : HoldStop → Type 0 → Type 0
+UnlessTelling stop.TellFault P = Unit {0}
+UnlessTelling s P = P
+
 -- it stops at a fault where the desk has it, and only there
 abbrev pub CountsStop : HoldStop → DeskState → Type 0
 CountsStop (stop.Refused f) d = HasNoFault d

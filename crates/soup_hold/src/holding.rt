@@ -9,9 +9,9 @@ ghost use Rattle.serial_slicer.specs.Onward.{after};
 ghost use Rattle.soup_checkpoint.specs.declared.faults.HoldFault.{HoldFault};
 ghost use Rattle.soup_checkpoint.specs.Hold.{owner_of, title};
 ghost use Rattle.soup_checkpoint.specs.Shelf.{IsAttached, IsOfFile, Refuses, SaysAsBefore, SaysSame, ShelfState};
-ghost use Rattle.soup_hold.specs.Holding.{CanHold, DiskHolds, HoldsState, IsEarly, IsFirst, IsHolding, IsHoldText, IsSmall, RefusesHold};
+ghost use Rattle.soup_hold.specs.Holding.{AppendedLess, CanHold, DiskHolds, HoldsState, IsCutShort, IsEarly, IsFirst, IsHolding, IsHoldText, IsSmall, RefusesHold};
 ghost use Rattle.soup_hold.specs.Steps.{Begins, HasHeld, HasStopped, IsLargeFirst};
-ghost use Rattle.soup_hold.specs.Stops.{CountsStops, IfRefused};
+ghost use Rattle.soup_hold.specs.Stops.{CountsStops, IfRefused, UnlessTelling};
 ghost use Rattle.soup_hold.specs.Text.{held_quanta, hold_text, world_at};
 ghost use Rattle.tierra_model.specs.Setups.{IsSetup};
 ghost use Rattle.tierra_model.specs.World.{World as WorldFields};
@@ -87,6 +87,8 @@ fn hold_from<D: Desk>(
     requires few { quanta ≤ 4000000 }
     requires every { 1 ≤ every }
     ensures told { TellsText (D.state desk.old) (D.state desk.new) (hold_text world.world quanta every) result }
+    ensures unfinished { IfErr result (λ s. UnlessTelling s
+        (AppendedLess (D.state desk.old).told (hold_text world.world quanta every) (D.state desk.new).told)) }
     ensures small { OnOk result (All (λ q. IsSmall (world_at world.world q)) (held_quanta every world.world.quanta quanta)) }
     ensures large { IfErr result (λ s. IfRefused s (IsLargeFirst world.world (held_quanta every world.world.quanta quanta))) }
     ensures moments { IfSome (D.state desk.old).reads (λ file. Elapses (D.state desk.old) (D.state desk.new)
@@ -141,6 +143,10 @@ pub fn hold<D: Desk>(
     ensures partly { OnErr result (((D.state desk.new).told ≡ (D.state desk.old).told)
         ⊎ ((text : List ℕ) × (k : ℕ) × IsHoldText setup.now quanta every (D.state desk.old).reads text
         × Appended (D.state desk.old).told (take k text) (D.state desk.new).told)) }
+
+    // All of it was told only where the run is done, or a tell failed.
+    ensures unfinished { IfErr result (λ s. UnlessTelling s (IsCutShort setup.now quanta every (D.state desk.old).reads
+        (D.state desk.old).told (D.state desk.new).told)) }
 
     // No state was too large, where all were appended.
     ensures small { OnOk result (IfSome (D.state desk.old).reads (λ file. CanHold setup.now quanta every (Some file))) }

@@ -81,7 +81,7 @@ module _ {first : BankState} {run : List GroupFields} {old mid : DeskState} {k :
 
   module _ {g : GroupFields} (at : slice_get run k ≡ Some g) (new : DeskState) (kept : k < length b.groups → KeepsDisk mid new)
       (moments : IfSome mid.reads (λ file. Elapses mid new (IsTaking b.digest b.groups k g mid.told))) where
-    time_on : IfSome old.reads (λ file. Elapses old new (IsKeeping first.digest first.groups run old.told))
+    time_on : IfSome old.reads (λ file. Elapses old new (IsKeeping first.digest first.groups run (saved_lines run) old.told))
     time_on = keeps_time so_far.so_far at old mid new first.digest b.digest so_far.digest so_far.still so_far.time moments
 
     pub next_has_taken : (now : BankState) → Takes b k g mid new now → Appended mid.told (group_lines g) new.told → HasTaken first run old new (k + 1) now
@@ -127,8 +127,8 @@ took_none first run old attached = record {
   attached = attached;
   still = stays_told old.reads;
   kept = λ h. KeepsDisk-none old;
-  time = for_file old.reads (λ (file : List ℕ). Elapses old old (IsKeeping first.digest first.groups run old.told))
-      (λ file is. Elapses-none old (IsKeeping first.digest first.groups run old.told));
+  time = for_file old.reads (λ (file : List ℕ). Elapses old old (IsKeeping first.digest first.groups run (saved_lines run) old.told))
+      (λ file is. Elapses-none old (IsKeeping first.digest first.groups run (saved_lines run) old.told));
 }
 
 -- ---- at the end
@@ -173,7 +173,7 @@ module _ {T : Type 0} (first : BankState) (run : List GroupFields) (old now : De
   end_kept (Err s) took stopped k differs = stopped.kept k differs
 
   pub end_time : (r : Result T RunStop) → OnOk r (TookRun first run old now) → IfErr r (HasStopped first run old now)
-      → IfSome old.reads (λ file. Elapses old now (IsKeeping first.digest first.groups run old.told))
+      → IfSome old.reads (λ file. Elapses old now (IsKeeping first.digest first.groups run (saved_lines run) old.told))
   end_time (Ok x) took stopped = took.1.time
   end_time (Err s) took stopped = stopped.time
 

@@ -1,5 +1,5 @@
 -- The first k groups of a run were taken to a bank that had some, and their lines were told.
-use Rattle.std.proofs.Common.{◌≡◌, ◌∙◌, inl, inr, ap, subst, arith, ℕ, ◌+◌, ◌<◌, ◌≤◌, List, ◌++◌, length, take, drop, append_assoc, length-append, length-take, Option, Some}
+use Rattle.std.proofs.Common.{◌≡◌, ◌∙◌, inl, inr, refl, sym, ap, subst, arith, ℕ, ◌+◌, ◌-◌, ◌<◌, ◌≤◌, List, [], ◌++◌, append-nil, length, take, drop, append_assoc, length-append, length-take, Option, Some}
 use Rattle.std.specs.Prelude.{IfSome, slice_get}
 use Rattle.std.proofs.lemmas.List.{take_all}
 use Rattle.std.proofs.lemmas.Option.{slice_get_within}
@@ -11,11 +11,12 @@ use Rattle.bank_journal.specs.Journal.{Has}
 use Rattle.bank_journal.specs.Steps.{StaysTold}
 use Rattle.bank_journal.proofs.Times.{each_file}
 use Rattle.report_text.specs.Bank.{saved_lines}
+use Rattle.soup_hold.specs.Holding.{BeginsWithText}
 use Rattle.soup_top.specs.Genebank.{IsFirstToDiffer}
 use Rattle.soup_top.specs.Handing.{TakenSoFar}
 use Rattle.soup_top.specs.Keeping.{DiffersAt, FitsAsFar, IsKeeping, IsTaken, IsTaking, completed, group_lines, grown}
 use Rattle.soup_top.proofs.Growing.{first_is_later, first_to_differ, fits_as_far_as, grown-all, inside_had, taken_fits, taken_grown}
-use Rattle.soup_top.proofs.RunLines.{lines_left, lines_more, lines_so_far}
+use Rattle.soup_top.proofs.RunLines.{lines_and_some, lines_begin, lines_left, lines_more, lines_of_first, lines_so_far}
 use Rattle.soup_top.proofs.Taking.{times_then}
 use Rattle.soup_hold.proofs.Telling.{Appended-then, piece_begun, text_before}
 
@@ -50,7 +51,8 @@ module _ {had run : List GroupFields} {k : ℕ} {groups : List GroupFields} {bef
     next_partly_told after partly = piece_begun _ _ (lines_left run k g at) (lines_so_far run k before mid so_far.told) partly
 
     -- while it is taken
-    pub taking_keeps : (digest image text : List ℕ) → IsTaking digest groups k g mid image text → IsKeeping digest had run before image text
+    pub taking_keeps : (digest image text : List ℕ) → IsTaking digest groups k g mid image text
+        → IsKeeping digest had run (saved_lines run) before image text
     taking_keeps digest image text (inl (has, told)) =
         let within = slice_get_within run k g at in
         record {
@@ -60,7 +62,11 @@ module _ {had run : List GroupFields} {k : ℕ} {groups : List GroupFields} {bef
           has = subst (λ gs. Has digest gs image) so_far.groups_are has;
           fits = subst (λ gs. GroupsFit (take k gs) (take k run)) so_far.groups_are so_far.fits;
           told = text_before before mid (saved_lines (take k run)) text so_far.told told;
+          kept_up =
+              subst (BeginsWithText (saved_lines (take (k - 1) run))) (append-nil (saved_lines (take k run)))
+              (lines_begin run (k - 1) k [] (omega arith));
           covered = inr (omega arith);
+          part = lines_of_first run k;
         }
     taking_keeps digest image text (inr (now, i, taken, has, told)) =
         let within = slice_get_within run k g at in
@@ -68,6 +74,7 @@ module _ {had run : List GroupFields} {k : ℕ} {groups : List GroupFields} {bef
         let some = take i (group_lines g) in
         let now_is = grown_taken now taken in
         let start = text_before before mid lines told.0 so_far.told told.1 in
+        let back : k + 1 - 1 ≡ k = omega arith in
         record {
           k = k + 1;
           piece = lines ++ some;
@@ -75,22 +82,24 @@ module _ {had run : List GroupFields} {k : ℕ} {groups : List GroupFields} {bef
           has = subst (λ gs. Has digest gs image) now_is has;
           fits = subst (λ gs. GroupsFit (take (k + 1) gs) (take (k + 1) run)) now_is (taken_fits had run k g at groups now taken so_far.fits);
           told = (start.0, start.1, told.2 ∙ ap (λ t. t ++ some) start.2 ∙ append_assoc start.0 lines some);
+          kept_up = subst (λ (j : ℕ). BeginsWithText (saved_lines (take j run)) (lines ++ some)) (sym back) (some, refl);
           covered = inr (omega (arith, ap length (lines_more run k g at), length-append lines some, length-append lines (group_lines g), length-take i (group_lines g)));
+          part = lines_and_some run k g at i;
         }
 
     -- so at each moment since the start
     pub keeps_time : (old now new : DeskState) (digest its : List ℕ) → its ≡ digest → StaysTold old now
-        → IfSome old.reads (λ file. Elapses old now (IsKeeping digest had run before))
+        → IfSome old.reads (λ file. Elapses old now (IsKeeping digest had run (saved_lines run) before))
         → IfSome now.reads (λ file. Elapses now new (IsTaking its groups k g mid))
-        → IfSome old.reads (λ file. Elapses old new (IsKeeping digest had run before))
+        → IfSome old.reads (λ file. Elapses old new (IsKeeping digest had run (saved_lines run) before))
     keeps_time old now new digest its same still first second =
         let more =
         each_file now.reads (λ (file : List ℕ). Elapses now new (IsTaking its groups k g mid))
-        (λ (file : List ℕ). Elapses now new (IsKeeping digest had run before))
+        (λ (file : List ℕ). Elapses now new (IsKeeping digest had run (saved_lines run) before))
         (λ file is time. Elapses-weaker (λ image text taking.
         taking_keeps digest image text (subst (λ (d : List ℕ). IsTaking d groups k g mid image text) same taking)) time)
         second in
-        times_then old now new (IsKeeping digest had run before) still first more
+        times_then old now new (IsKeeping digest had run (saved_lines run) before) still first more
 
     -- the first that differs is one of those that the bank had
     pub differs_first : DiffersAt groups k g → (k < length groups) × (k < length had) × IsFirstToDiffer had run k

@@ -29,13 +29,13 @@ pub record HasTaken (first : BankState) (run : List GroupFields) (old now : Desk
   pub attached : IsAttached bank now
   pub still : StaysTold old now
   pub kept : k ≤ length first.groups → KeepsDisk old now
-  pub time : IfSome old.reads (λ file. Elapses old now (IsKeeping first.digest first.groups run old.told))
+  pub time : IfSome old.reads (λ file. Elapses old now (IsKeeping first.digest first.groups run (saved_lines run) old.told))
 
 -- Something stopped that. Where a group differs, whatever the cause, the disk was left alone.
 pub record HasStopped (first : BankState) (run : List GroupFields) (old now : DeskState) (cause : RunStop) : Type 0 where
   pub differs : IfDiffers cause (λ k. IsFirstToDiffer first.groups run k × Appended old.told (saved_lines (take k run)) now.told)
   pub kept : (k : ℕ) → IsFirstToDiffer first.groups run k → KeepsDisk old now
-  pub time : IfSome old.reads (λ file. Elapses old now (IsKeeping first.digest first.groups run old.told))
+  pub time : IfSome old.reads (λ file. Elapses old now (IsKeeping first.digest first.groups run (saved_lines run) old.told))
   pub partly : AppendedSome old.told (saved_lines run) now.told
   pub counts : CountsStop cause now
 

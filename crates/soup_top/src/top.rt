@@ -4,17 +4,18 @@ ghost use Rattle.std.specs.Prelude.{◌≡◌, ◌⊎◌, ◌+◌, ◌<◌, ◌�
 ghost use Rattle.bank_recover.specs.declared.faults.BankFault.{BankFault};
 ghost use Rattle.desk_io.specs.Desk.{Appended, Elapses, HasNoFault, IsTellCall, Untouched};
 ghost use Rattle.soup_checkpoint.specs.declared.faults.HoldFault.{HoldFault};
-ghost use Rattle.soup_hold.specs.Holding.{CanHold, IsEarly, IsHoldText, RefusesHold};
+ghost use Rattle.soup_hold.specs.Holding.{CanHold, IsCutShort, IsEarly, IsHoldText, RefusesHold};
 ghost use Rattle.soup_watch.specs.Watching.{IsWatchText};
 ghost use Rattle.soup_words.specs.Orders.{IsInRange};
 ghost use Rattle.soup_words.specs.declared.order.Order.{Order};
-ghost use Rattle.soup_top.specs.Answers.{Cause, DiskIsOfHold, DiskIsOfRun, EachHold, EachMoment, EachRun, GivesNothingToWrite, IsAllTold, IsToldInPart, OnBankRefused, OnDone, OnHoldRefused, OnReadWhole, OnUncalled, UnlessDiskFault, UnlessReadFault, UnlessTellFault};
+ghost use Rattle.tierra_model.specs.Groups.{GroupFields};
+ghost use Rattle.soup_top.specs.Answers.{Cause, DiskIsOfHold, DiskIsOfRun, EachHold, EachMoment, EachRun, GivesNothingToWrite, IsAllTold, IsToldInPart, IsUnfinished, OnBankRefused, OnDone, OnHoldRefused, OnReadWhole, OnStopped, OnUncalled, UnlessDiskFault, UnlessReadFault, UnlessTellFault};
 ghost use Rattle.soup_top.specs.Checkpoints.{DiskHoldsSerial, HasTrueMoments, IsLeftAlone, IsTrueHold, Resumes};
-ghost use Rattle.soup_top.specs.Genebank.{BeginsWith, DiskIsOfHistory, IsTrueMoment, RefusesRun};
+ghost use Rattle.soup_top.specs.Genebank.{BeginsWith, DiskIsOfHistory, HasGroups, IsInStep, IsTrueMoment, KeepsUp, RefusesRun};
 ghost use Rattle.soup_top.specs.Keeping.{IsToldAtRefusal};
 ghost use Rattle.soup_top.specs.Sources.{IsTextOf, read_by, run_groups};
-ghost use Rattle.soup_top.specs.Stops.{CountsStops, IfHoldRefused, IfRefused};
-ghost use Rattle.soup_top.specs.Tasks.{IsFew, IsTextFor, IsToldWhenRefused, OfHold, OfRun, OfText, RefusesHolding, RefusesTask, UnlessWriting};
+ghost use Rattle.soup_top.specs.Stops.{CountsStops, IfHoldRefused, IfRefused, UnlessTelling};
+ghost use Rattle.soup_top.specs.Tasks.{IsCutShortFor, IsFew, IsPartlyToldFor, IsToldFor, IsToldWhenRefused, OfHold, OfRun, OfText, RefusesHolding, RefusesTask, UnlessWriting};
 ghost use Rattle.soup_top.specs.Words.{AsksFor, ReadsSource, kind_of, texts_of};
 
 use crate::asking::{Task, task_asked};
@@ -53,9 +54,13 @@ fn tell_bank<R: Threads + Sync, D: Desk>(
 ) -> Result<(), RunStop>
     requires range { IsInRange order }
     requires sound { HasNoFault (D.state desk.old) }
-    ensures told { OnOk result ((text : List ℕ) × IsTextFor (Task.Bank order) (D.state desk.old).reads text × Appended (D.state desk.old).told text (D.state desk.new).told) }
-    ensures partly { OnErr result (((D.state desk.new).told ≡ (D.state desk.old).told) ⊎ ((text : List ℕ) × (k : ℕ) × IsTextFor (Task.Bank order) (D.state desk.old).reads text × Appended (D.state desk.old).told (take k text) (D.state desk.new).told)) }
-    ensures refused { IfErr result (λ s. IfRefused s (λ f. RefusesTask (Task.Bank order) (D.state desk.old).reads f × ((D.state desk.new).told ≡ (D.state desk.old).told)
+    ensures told { OnOk result (IsToldFor (Task.Bank order) (D.state desk.old).reads (D.state desk.old).told
+        (D.state desk.new).told) }
+    ensures partly { OnErr result (IsPartlyToldFor (Task.Bank order) (D.state desk.old).reads (D.state desk.old).told
+        (D.state desk.new).told) }
+    ensures unfinished { IfErr result (λ s. UnlessTelling s ((D.state desk.new).told ≡ (D.state desk.old).told)) }
+    ensures refused { IfErr result (λ s. IfRefused s (λ f. RefusesTask (Task.Bank order) (D.state desk.old).reads f
+        × ((D.state desk.new).told ≡ (D.state desk.old).told)
         × Elapses (D.state desk.old) (D.state desk.new) (λ image text. (D.state desk.old).may_leave image))) }
     ensures of_bank { IfErr result (λ s. IfHoldRefused s (λ f. ⊥)) }
     ensures untouched { Untouched (D.state desk.old) (D.state desk.new) }
@@ -78,8 +83,12 @@ fn watch_and_tell<R: Threads + Wait + Sync, G: Gate + Sync, D: Desk>(
     requires range { IsInRange order }
     requires workers { order.workers ≤ 63 }
     requires sound { HasNoFault (D.state desk.old) }
-    ensures told { OnOk result ((text : List ℕ) × IsWatchText setup order.quanta order.looks text × Appended (D.state desk.old).told text (D.state desk.new).told) }
-    ensures partly { OnErr result (((D.state desk.new).told ≡ (D.state desk.old).told) ⊎ ((text : List ℕ) × (k : ℕ) × IsWatchText setup order.quanta order.looks text × Appended (D.state desk.old).told (take k text) (D.state desk.new).told)) }
+    ensures told { OnOk result ((text : List ℕ) × IsWatchText setup order.quanta order.looks text
+        × Appended (D.state desk.old).told text (D.state desk.new).told) }
+    ensures partly { OnErr result (((D.state desk.new).told ≡ (D.state desk.old).told)
+        ⊎ ((text : List ℕ) × (k : ℕ) × IsWatchText setup order.quanta order.looks text
+        × Appended (D.state desk.old).told (take k text) (D.state desk.new).told)) }
+    ensures unfinished { IfErr result (λ s. UnlessTelling s ((D.state desk.new).told ≡ (D.state desk.old).told)) }
     ensures refused { IfErr result (λ s. IfRefused s (λ f. ⊥)) }
     ensures no_hold { IfErr result (λ s. IfHoldRefused s (λ f. ⊥)) }
     ensures untouched { Untouched (D.state desk.old) (D.state desk.new) }
@@ -106,6 +115,8 @@ fn hold_and_tell<D: Desk>(
     ensures partly { OnErr result (((D.state desk.new).told ≡ (D.state desk.old).told)
         ⊎ ((text : List ℕ) × (k : ℕ) × IsHoldText setup order.quanta order.every (D.state desk.old).reads text
         × Appended (D.state desk.old).told (take k text) (D.state desk.new).told)) }
+    ensures unfinished { IfErr result (λ s. UnlessTelling s (IsCutShort setup order.quanta order.every
+        (D.state desk.old).reads (D.state desk.old).told (D.state desk.new).told)) }
     ensures of_hold { IfErr result (λ s. IfRefused s (λ f. ⊥)) }
     ensures refused { IfErr result (λ s. IfHoldRefused s
         (RefusesHold setup order.quanta order.every (D.state desk.old).reads)) }
@@ -133,11 +144,17 @@ fn carry_out<R: Threads + Wait + Sync, G: Gate + Sync, D: Desk>(
 ) -> Result<(), RunStop>
     requires few { IsFew task }
     requires sound { HasNoFault (D.state desk.old) }
-    ensures told { OnOk result ((text : List ℕ) × IsTextFor task (D.state desk.old).reads text × Appended (D.state desk.old).told text (D.state desk.new).told) }
-    ensures partly { OnErr result (((D.state desk.new).told ≡ (D.state desk.old).told) ⊎ ((text : List ℕ) × (k : ℕ) × IsTextFor task (D.state desk.old).reads text × Appended (D.state desk.old).told (take k text) (D.state desk.new).told)) }
-    ensures begins { OnOk result (OfRun task (λ setup n. IfSome (D.state desk.old).reads (λ file. BeginsWith setup n file (D.state desk.new).reads (D.state desk.new).may_leave))) }
+    ensures told { OnOk result (IsToldFor task (D.state desk.old).reads (D.state desk.old).told
+        (D.state desk.new).told) }
+    ensures partly { OnErr result (IsPartlyToldFor task (D.state desk.old).reads (D.state desk.old).told
+        (D.state desk.new).told) }
+    ensures unfinished { IfErr result (λ s. UnlessTelling s (IsCutShortFor task (D.state desk.old).reads
+        (D.state desk.old).told (D.state desk.new).told)) }
+    ensures begins { OnOk result (OfRun task (λ setup n. IfSome (D.state desk.old).reads (λ file.
+        BeginsWith setup n file (D.state desk.new).reads (D.state desk.new).may_leave))) }
     ensures moments { OfRun task (λ setup n. DiskIsOfHistory setup (D.state desk.old).reads (D.state desk.old).may_leave
         → Elapses (D.state desk.old) (D.state desk.new) (IsTrueMoment setup n (D.state desk.old).told)) }
+    ensures kept_up { OfRun task (λ setup n. KeepsUp setup n (D.state desk.old) (D.state desk.new)) }
     ensures refused { IfErr result (λ s. IfRefused s (λ f. RefusesTask task (D.state desk.old).reads f)) }
     ensures hold_refused { IfErr result (λ s. IfHoldRefused s (RefusesHolding task (D.state desk.old).reads)) }
     ensures hold_early { IfErr result (λ s. IfHoldRefused s (λ f. IsEarly f
@@ -151,10 +168,14 @@ fn carry_out<R: Threads + Wait + Sync, G: Gate + Sync, D: Desk>(
         Resumes setup n every (D.state desk.old) (D.state desk.new))) }
     ensures hold_moments { OfHold task (λ setup n every.
         HasTrueMoments setup n every (D.state desk.old) (D.state desk.new)) }
-    ensures unwritten { IfErr result (λ s. IfRefused s (λ f. IfSome (D.state desk.old).reads (λ file. (D.state desk.new).reads ≡ (D.state desk.old).reads))) }
-    ensures told_at_refusal { IfErr result (λ s. IfRefused s (λ f. IfSome (D.state desk.old).reads (λ file. IsToldWhenRefused task (D.state desk.old).told (D.state desk.new).told f))) }
-    ensures quiet { IfErr result (λ s. IfRefused s (λ f. IfSome (D.state desk.old).reads (λ file. Elapses (D.state desk.old) (D.state desk.new) (λ image text. (D.state desk.old).may_leave image)))) }
-    ensures quiet_run { OfRun task (λ setup n. IfSome (D.state desk.old).reads (λ file. (f : BankFault) → RefusesRun setup n file f
+    ensures unwritten { IfErr result (λ s. IfRefused s (λ f. IfSome (D.state desk.old).reads (λ file.
+        (D.state desk.new).reads ≡ (D.state desk.old).reads))) }
+    ensures told_at_refusal { IfErr result (λ s. IfRefused s (λ f. IfSome (D.state desk.old).reads (λ file.
+        IsToldWhenRefused task (D.state desk.old).told (D.state desk.new).told f))) }
+    ensures quiet { IfErr result (λ s. IfRefused s (λ f. IfSome (D.state desk.old).reads (λ file.
+        Elapses (D.state desk.old) (D.state desk.new) (λ image text. (D.state desk.old).may_leave image)))) }
+    ensures quiet_run { OfRun task (λ setup n. IfSome (D.state desk.old).reads (λ file.
+        (f : BankFault) → RefusesRun setup n file f
         → Elapses (D.state desk.old) (D.state desk.new) (λ image text. (D.state desk.old).may_leave image))) }
     ensures untouched { UnlessWriting task (Untouched (D.state desk.old) (D.state desk.new)) }
     ensures disk { OfText task ((D.state desk.new).disk_faults ≡ 0) }
@@ -189,17 +210,28 @@ pub fn tierra<R: Threads + Wait + Sync, S: Source, D: Desk, G: Gate + Sync>(
 
     // Done has told the whole text that was asked for, and nothing else: of a run the saved lines and the report of the
     // world that the serial slicer reaches.
-    ensures done { OnDone result (IsAllTold (texts_of words.now) (S.left source.old) (D.state desk.old).reads (D.state desk.old).told (D.state desk.new).told) }
+    ensures done { OnDone result (IsAllTold (texts_of words.now) (S.left source.old) (D.state desk.old).reads
+        (D.state desk.old).told (D.state desk.new).told) }
 
     // A run that is done leaves a genebank that begins with that world's.
     ensures begins { OnDone result (EachRun (texts_of words.now) (S.left source.old) (λ setup n.
-        IfSome (D.state desk.old).reads (λ file. BeginsWith setup n file (D.state desk.new).reads (D.state desk.new).may_leave))) }
+        IfSome (D.state desk.old).reads (λ file.
+        BeginsWith setup n file (D.state desk.new).reads (D.state desk.new).may_leave))) }
 
-    // At every moment of a run, whatever it answers, a crash leaves the genebank of the serial history at some quantum, with
-    // every genotype whose saved line was told.
+    // At every moment of a run, whatever it answers, a crash leaves the genebank of the serial history at some quantum,
+    // with every genotype whose saved line was told.
     ensures crash { EachRun (texts_of words.now) (S.left source.old) (λ setup n.
         DiskIsOfHistory setup (D.state desk.old).reads (D.state desk.old).may_leave
         → EachMoment (D.state desk.old) (D.state desk.new) (IsTrueMoment setup n (D.state desk.old).told)) }
+
+    // Where the file had groups of the setup, or none yet, a crash at every moment of a run, whatever it answers, leaves
+    // what the file might have said at the start, and nothing was told since; or it leaves those groups, and of the
+    // run's first k those that they lack, and the first k fit. Then all lines before those of group k were told, and
+    // none of a later group.
+    ensures kept_up { EachRun (texts_of words.now) (S.left source.old) (λ setup n.
+        IfSome (D.state desk.old).reads (λ file. (had : List GroupFields) → HasGroups setup had file
+        → EachMoment (D.state desk.old) (D.state desk.new)
+        (IsInStep setup n had (D.state desk.old).may_leave file (D.state desk.old).told))) }
 
     // A run with checkpoints that is done, and went on from a world of the serial run, has told a line for each later
     // checkpoint, and the report of the world that the serial slicer reaches.
@@ -217,7 +249,8 @@ pub fn tierra<R: Threads + Wait + Sync, S: Source, D: Desk, G: Gate + Sync>(
         → EachMoment (D.state desk.old) (D.state desk.new) (IsTrueHold setup n every start (D.state desk.old).told)) }
 
     // Each answer has its cause.
-    ensures cause { Cause (texts_of words.now) (S.left source.old) (D.state desk.old).reads (0 < S.faults source.new) (0 < (D.state desk.new).disk_faults) (0 < (D.state desk.new).tell_faults) result }
+    ensures cause { Cause (texts_of words.now) (S.left source.old) (D.state desk.old).reads (0 < S.faults source.new)
+        (0 < (D.state desk.new).disk_faults) (0 < (D.state desk.new).tell_faults) result }
 
     // Without a fault, accepted words and bytes, for a run a disk of its history, and for one with checkpoints a
     // desk that tells its file, which is not beyond, and states that are not too large, give Done or want of memory.
@@ -229,21 +262,26 @@ pub fn tierra<R: Threads + Wait + Sync, S: Source, D: Desk, G: Gate + Sync>(
         → S.faults source.new ≡ 0 → (D.state desk.new).disk_faults ≡ 0 → (D.state desk.new).tell_faults ≡ 0
         → (result ≡ Status.Done) ⊎ (result ≡ Status.OutOfMemory) }
 
-    // Whatever comes, what was told begins that text. Words and a source that are refused, and a read that failed, leave
-    // the desk alone.
-    ensures prefix { IsToldInPart (texts_of words.now) (S.left source.old) (D.state desk.old).reads (D.state desk.old).told (D.state desk.new).told }
+    // Whatever comes, what was told begins that text. At an answer other than Done and a failed tell nothing was told,
+    // or some of it is lacking. Words and a source that are refused, and a read that failed, leave the desk alone.
+    ensures prefix { IsToldInPart (texts_of words.now) (S.left source.old) (D.state desk.old).reads
+        (D.state desk.old).told (D.state desk.new).told }
+    ensures unfinished { OnStopped result (IsUnfinished (texts_of words.now) (S.left source.old)
+        (D.state desk.old).reads (D.state desk.old).told (D.state desk.new).told) }
     ensures uncalled { OnUncalled result (desk.new ≡ desk.old) }
 
-    // A file that is refused is not written: a read gives the same, and a crash at each moment leaves what it might have
-    // left before, whatever the answer. Nothing was told, but for the lines of the groups before one that differs.
-    ensures unwritten { OnBankRefused result (λ f. IfSome (D.state desk.old).reads (λ file. (D.state desk.new).reads ≡ (D.state desk.old).reads)) }
+    // A file that is refused is not written: a read gives the same, and a crash at each moment leaves what it might
+    // have left before, whatever the answer. Nothing was told, but for the lines of the groups before one that differs.
+    ensures unwritten { OnBankRefused result (λ f. IfSome (D.state desk.old).reads (λ file.
+        (D.state desk.new).reads ≡ (D.state desk.old).reads)) }
     ensures quiet { OnBankRefused result (λ f. IfSome (D.state desk.old).reads (λ file.
         EachMoment (D.state desk.old) (D.state desk.new) (λ image text. (D.state desk.old).may_leave image))) }
     ensures quiet_run { EachRun (texts_of words.now) (S.left source.old) (λ setup n.
         IfSome (D.state desk.old).reads (λ file. (f : BankFault) → RefusesRun setup n file f
         → EachMoment (D.state desk.old) (D.state desk.new) (λ image text. (D.state desk.old).may_leave image))) }
     ensures told_at_refusal { OnBankRefused result (λ f. EachRun (texts_of words.now) (S.left source.old) (λ setup n.
-        IfSome (D.state desk.old).reads (λ file. IsToldAtRefusal (run_groups setup n) (D.state desk.old).told (D.state desk.new).told f))) }
+        IfSome (D.state desk.old).reads (λ file.
+        IsToldAtRefusal (run_groups setup n) (D.state desk.old).told (D.state desk.new).told f))) }
 
     // Checkpoints that are refused before any is appended are not written at any moment, and nothing is told.
     ensures hold_early { OnHoldRefused result (((D.state desk.new).told ≡ (D.state desk.old).told)
@@ -261,8 +299,10 @@ pub fn tierra<R: Threads + Wait + Sync, S: Source, D: Desk, G: Gate + Sync>(
     // A source is read to its end, and never further than one byte past the most. The genebank is told without one.
     ensures to_its_end { (order : Order) → AsksFor (texts_of words.now) order → ReadsSource (kind_of order)
         → OnReadWhole result (IfSome (S.left source.old) (λ bytes. S.left source.new ≡ Some [])) }
-    ensures unread { (order : Order) → AsksFor (texts_of words.now) order → (ReadsSource (kind_of order) → ⊥) → source.new ≡ source.old }
-    ensures no_further { IfSome (S.left source.old) (λ xs. IfSome (S.left source.new) (λ ys. length xs ≤ length ys + 1048577)) }
+    ensures unread { (order : Order) → AsksFor (texts_of words.now) order → (ReadsSource (kind_of order) → ⊥)
+        → source.new ≡ source.old }
+    ensures no_further { IfSome (S.left source.old) (λ xs. IfSome (S.left source.new) (λ ys.
+        length xs ≤ length ys + 1048577)) }
 
     // A count that rose is the answer.
     ensures source_steady { UnlessReadFault result (S.faults source.new ≡ 0) }

@@ -1,8 +1,10 @@
-use Rattle.std.proofs.Common.{◌∙◌, ap, arith, sym}
+use Rattle.std.proofs.Common.{◌∙◌, ap, arith, inl, sym}
+use Rattle.std.proofs.lemmas.Result.{err_from_is_err_and}
 use Rattle.soup_checkpoint.specs.declared.owner.Owner.{Owner}
 use Rattle.soup_hold.specs.Text.{held_quanta}
 use Rattle.soup_hold.proofs.Settled.{first_settings}
-use Rattle.soup_hold.proofs.Together.{all_small, all_told_then, begun_quietly, beyond_unwritten, is_beyond, part_told_then, refused_then, went_on_unrefused, whole_time}
+use Rattle.soup_hold.proofs.Together.{all_small, all_told_then, begun_quietly, beyond_unwritten, cut_short_then, is_beyond, part_told_then, refused_then, went_on_unrefused, whole_time}
+use Rattle.soup_hold.proofs.Stopping.{unless_telling}
 use Rattle.soup_hold.proofs.Whole.{beginning_time}
 use Rattle.soup_hold.proofs.holding.hold.Goals as goal
 
@@ -14,6 +16,11 @@ pub returns-in_err-shelf-clause-moments : goal.returns-in_err-shelf-clause-momen
 returns-in_err-shelf-clause-moments g c held first disk is =
     beginning_time c.args.setup.now held first (held_quanta c.args.every first.quanta c.args.quanta) (g.D.Desk.state c.args.desk.now)
     (g.D.Desk.state c.begin.new.desk) disk c.begin.ensures.moments
+
+pub returns-in_err-shelf-clause-unfinished : goal.returns-in_err-shelf-clause-unfinished
+returns-in_err-shelf-clause-unfinished g c =
+    let stop = err_from_is_err_and c.from_residual.result c.from_residual.ensures.1 in
+    rw stop.1 (unless_telling stop.0 _ (inl c.begin.ensures.moments.told))
 
 pub returns-then-held-quanta-clause-refused : goal.returns-then-held-quanta-clause-refused
 returns-then-held-quanta-clause-refused g c =
@@ -51,6 +58,12 @@ returns-clause-partly g c =
     part_told_then c.args.setup.now c.args.quanta c.args.every (g.D.Desk.state c.args.desk.now) (g.D.Desk.state c.begin.new.desk) c.in_ok-shelf.shelf
     c.in_ok-shelf.world.world c.in_ok-shelf.ensures.begun c.hold_from.result (g.D.Desk.state c.hold_from.new.desk)
     (omega (arith, c.if-held-quanta.false, c.quanta-held.ensures)) c.begin.ensures.moments.told c.hold_from.ensures.told
+
+pub returns-clause-unfinished : goal.returns-clause-unfinished
+returns-clause-unfinished g c =
+    cut_short_then c.args.setup.now c.args.quanta c.args.every (g.D.Desk.state c.args.desk.now) (g.D.Desk.state c.begin.new.desk) c.in_ok-shelf.shelf
+    c.in_ok-shelf.world.world c.in_ok-shelf.ensures.begun c.hold_from.result (g.D.Desk.state c.hold_from.new.desk)
+    (omega (arith, c.if-held-quanta.false, c.quanta-held.ensures)) c.begin.ensures.moments.told c.hold_from.ensures.unfinished
 
 pub returns-clause-small : goal.returns-clause-small
 returns-clause-small g c =

@@ -6,8 +6,9 @@ use Rattle.desk_io.specs.Desk.{Appended, AppendedSome, Elapses}
 use Rattle.soup_checkpoint.specs.Shelf.{SaysSame}
 use Rattle.soup_hold.specs.Holding.{IsHolding, IsSmall}
 use Rattle.soup_hold.specs.Text.{held_lines, held_quanta, last_report, world_at}
-use Rattle.soup_hold.proofs.Telling.{all_told, as_told, none_told, piece_begun, piece_told}
-use Rattle.soup_hold.proofs.Whole.{all_lines, last_report_is, report_time}
+use Rattle.soup_hold.proofs.Stopping.{unless_telling}
+use Rattle.soup_hold.proofs.Telling.{all_told, as_told, lines_alone, none_told, piece_begun, piece_told}
+use Rattle.soup_hold.proofs.Whole.{all_lines, last_report_is, report_has_bytes, report_time}
 use Rattle.soup_hold.proofs.holding.hold_from.Given.{Over}
 use Rattle.soup_hold.proofs.holding.hold_from.Goals as goal
 use Rattle.soup_hold.proofs.holding.hold_from.Goals.{After-tell}
@@ -39,6 +40,28 @@ returns-in_err-world-clause-told g c =
     let before = (g.D.Desk.state c.args.desk.now).told in
     let stop = err_from_is_err_and c.from_residual.result c.from_residual.ensures.1 in
     rw stop.1 (record { all = tt; partly = piece_begun front report refl (none_told (front ++ report) before) c.in_err-world.ensures.stopped.partly })
+
+pub returns-in_err-world-clause-unfinished : goal.returns-in_err-world-clause-unfinished
+returns-in_err-world-clause-unfinished g c =
+    let front = held_lines (held_quanta c.args.every c.args.world.world.quanta c.args.quanta) in
+    let report = last_report c.args.world.world c.args.quanta in
+    let stop = err_from_is_err_and c.from_residual.result c.from_residual.ensures.1 in
+    let less = lines_alone (g.D.Desk.state c.args.desk.now).told (g.D.Desk.state c.hold_each.new.desk).told front report
+    (report_has_bytes c.args.world.world c.args.quanta) c.in_err-world.ensures.stopped.partly in
+    rw stop.1 (unless_telling stop.0 _ less)
+
+pub returns-in_err-text-clause-unfinished : goal.returns-in_err-text-clause-unfinished
+returns-in_err-text-clause-unfinished g c =
+    let quanta = held_quanta c.args.every c.args.world.world.quanta c.args.quanta in
+    let front = held_lines quanta in
+    let report = last_report c.args.world.world c.args.quanta in
+    let before = (g.D.Desk.state c.args.desk.now).told in
+    let now = (g.D.Desk.state c.hold_each.new.desk).told in
+    let told = all_lines c.args.shelf.owner c.args.world.world quanta before now c.in_ok-world.ensures.held.1.told in
+    let stop = err_from_is_err_and c.from_residual-in_err-text.result c.from_residual-in_err-text.ensures.1 in
+    let less = lines_alone before now front report (report_has_bytes c.args.world.world c.args.quanta)
+    (as_told (piece_told front [] (sym (append-nil front)) (none_told front before) told)) in
+    rw stop.1 (unless_telling stop.0 _ less)
 
 pub returns-in_err-text-clause-told : goal.returns-in_err-text-clause-told
 returns-in_err-text-clause-told g c =

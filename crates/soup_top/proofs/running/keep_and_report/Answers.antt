@@ -1,13 +1,14 @@
 use Rattle.std.proofs.Common.{rules, ◌≡◌, ◌++◌, [], refl, sym, subst, append-nil, List, ℕ, IfSome}
 use Rattle.std.proofs.lemmas.Result.{err_from_is_err_and}
 use Rattle.report_text.specs.Bank.{saved_lines}
-use Rattle.desk_io.specs.Desk.{Appended, AppendedSome, Elapses}
+use Rattle.desk_io.specs.Desk.{Appended, AppendedSome, Elapses, Tells}
 use Rattle.desk_io.proofs.Time.{KeepsDisk-telling, KeepsDisk-then}
 use Rattle.soup_top.specs.Keeping.{IsKeeping}
-use Rattle.soup_top.specs.Sources.{run_groups, run_report}
-use Rattle.soup_top.proofs.RunMoments.{Completes-untouched, report-time}
+use Rattle.soup_top.specs.Sources.{run_groups, run_report, run_text}
+use Rattle.soup_top.proofs.RunMoments.{Completes-untouched, lines-time, report-time, report_has_bytes}
 use Rattle.soup_top.proofs.Taking.{times_then}
-use Rattle.soup_hold.proofs.Telling.{all_told, none_told, piece_begun, piece_told}
+use Rattle.soup_top.proofs.Unfinished.{unless_telling}
+use Rattle.soup_hold.proofs.Telling.{all_told, lines_alone, none_told, piece_begun, piece_told}
 use Rattle.soup_top.proofs.running.keep_and_report.Given.{Over}
 use Rattle.soup_top.proofs.running.keep_and_report.Goals as goal
 use Rattle.soup_top.proofs.running.keep_and_report.Goals.{After-tell}
@@ -15,7 +16,8 @@ use Rattle.soup_top.proofs.running.keep_and_report.Goals.{After-tell}
 -- the moments to the end of the report
 reported : (g : Over) (c : After-tell g) → IfSome (g.D.Desk.state c.args.desk.now).reads
     (λ file. Elapses (g.D.Desk.state c.args.desk.now) (g.D.Desk.state c.tell.new.self)
-    (IsKeeping c.args.bank.digest c.args.bank.groups (run_groups c.args.setup c.args.quanta) (g.D.Desk.state c.args.desk.now).told))
+    (IsKeeping c.args.bank.digest c.args.bank.groups (run_groups c.args.setup c.args.quanta) (run_text c.args.setup c.args.quanta)
+    (g.D.Desk.state c.args.desk.now).told))
 reported g c =
     let old = g.D.Desk.state c.args.desk.now in
     let mid = g.D.Desk.state c.run_with_crew.new.desk in
@@ -24,9 +26,28 @@ reported g c =
     let run = run_groups c.args.setup c.args.quanta in
     let kept = c.in_ok-report.ensures in
     let all = kept.completed in
-    let last = report-time mid new had.digest had.groups run old.told (saved_lines run) c.deref.result.now all.at_rest all.settled.durable all.fits
-    kept.told.all c.tell.ensures.call.tells in
-    times_then old mid new (IsKeeping had.digest had.groups run old.told) all.still c.run_with_crew.ensures.moments last
+    let report = run_report c.args.setup c.args.quanta in
+    let text : c.deref.result.now ≡ report = search rules in
+    let tells = subst (λ (l : List ℕ). Tells mid new l c.tell.result) text c.tell.ensures.call.tells in
+    let first = lines-time old mid had.digest had.groups run old.told report c.run_with_crew.ensures.moments in
+    let last = report-time mid new had.digest had.groups run old.told report all.at_rest all.settled.durable all.fits kept.told.all tells in
+    times_then old mid new (IsKeeping had.digest had.groups run (saved_lines run ++ report) old.told) all.still first last
+
+pub returns-in_err-report-clause-moments : goal.returns-in_err-report-clause-moments
+returns-in_err-report-clause-moments g c =
+    lines-time (g.D.Desk.state c.args.desk.now) (g.D.Desk.state c.run_with_crew.new.desk) c.args.bank.digest c.args.bank.groups
+    (run_groups c.args.setup c.args.quanta) (g.D.Desk.state c.args.desk.now).told (run_report c.args.setup c.args.quanta)
+    c.run_with_crew.ensures.moments
+
+pub returns-in_err-report-clause-unfinished : goal.returns-in_err-report-clause-unfinished
+returns-in_err-report-clause-unfinished g c =
+    let before = (g.D.Desk.state c.args.desk.now).told in
+    let lines = saved_lines (run_groups c.args.setup c.args.quanta) in
+    let report = run_report c.args.setup c.args.quanta in
+    let stop = err_from_is_err_and c.from_residual.result c.from_residual.ensures.1 in
+    let less = lines_alone before (g.D.Desk.state c.run_with_crew.new.desk).told lines report
+    (report_has_bytes c.args.setup c.args.quanta) c.in_err-report.ensures.told.partly in
+    rw stop.1 (unless_telling stop.0 _ less)
 
 pub returns-in_err-report-clause-told : goal.returns-in_err-report-clause-told
 returns-in_err-report-clause-told g c =

@@ -35,7 +35,8 @@ returns-in_default-clause-kept g c = λ k first. KeepsDisk-none (g.D.Desk.state 
 pub returns-in_default-clause-moments : goal.returns-in_default-clause-moments
 returns-in_default-clause-moments g c =
     let old = g.D.Desk.state c.args.desk.now in
-    let P = IsKeeping c.args.bank.digest c.args.bank.groups (run_groups c.args.setup c.args.quanta) old.told in
+    let run = run_groups c.args.setup c.args.quanta in
+    let P = IsKeeping c.args.bank.digest c.args.bank.groups run (saved_lines run) old.told in
     for_file old.reads (λ (file : List ℕ). Elapses old old P) (λ file is. Elapses-none old P)
 
 pub returns-in_default-clause-told : goal.returns-in_default-clause-told
