@@ -1,0 +1,141 @@
+//! A file of the working folder, opened when it is first used. What it holds is not told.
+
+ghost use Rattle.std.specs.Prelude.{◌≤◌, ◌^◌, ◌+◌, IfOk, OnOk, length};
+
+use std::fs::{File, OpenOptions};
+use std::io;
+use std::os::unix::fs::FileExt;
+use std::rt::Files;
+
+/// The greatest length of a file.
+const MAX_LEN: u64 = 1 << 62;
+
+/// Before the first sync or write the file is only read, and one that is missing is empty. The first sync or write makes it
+/// where it is missing, and locks it, so that a second run in the folder is kept out.
+#[derive(Drop)]
+pub struct DiskFile<'r, R: Files<File = File>> {
+    rt: &'r R,
+    name: &'static str,
+    file: Option<File>,
+    is_locked: bool,
+}
+
+// Files in the place of standard ones that the caller closed. While they are open the desk's file cannot take such a number,
+// at which what is printed would go into it.
+fn stand_ins<R: Files<File = File>>(rt: &R) -> [Option<File>; 3] {
+    [
+        File::open(rt, "/dev/null").ok(),
+        File::open(rt, "/dev/null").ok(),
+        File::open(rt, "/dev/null").ok(),
+    ]
+}
+
+// The file to read from, if there is one.
+fn found<'f, R: Files<File = File>>(
+    rt: &R,
+    name: &str,
+    file: &'f mut Option<File>,
+) -> io::Result<Option<&'f File>> {
+    if file.is_none() {
+        let _stand_ins = stand_ins(rt);
+        match File::open(rt, name) {
+            Ok(opened) => *file = Some(opened),
+            Err(fault) if fault.kind() == io::ErrorKind::NotFound => {}
+            Err(fault) => return Err(fault),
+        }
+    }
+    Ok(file.as_ref())
+}
+
+// The file to write to, made where it is missing. Where another run has locked it, it is not given. While it is empty it may
+// be new, so its folder is synced before the first write.
+fn open_locked<R: Files<File = File>>(rt: &R, name: &str) -> io::Result<File> {
+    let mut how = OpenOptions::new();
+    how.read(true).write(true).create(true);
+    let _stand_ins = stand_ins(rt);
+    let opened = how.open(rt, name)?;
+    opened.try_lock()?;
+    if opened.metadata()?.len() == 0 {
+        File::open(rt, ".")?.sync_all()?;
+    }
+    Ok(opened)
+}
+
+// The file to write to, which stays locked.
+fn locked<'f, R: Files<File = File>>(
+    rt: &R,
+    name: &str,
+    file: &'f mut Option<File>,
+    is_locked: &mut bool,
+) -> io::Result<&'f File> {
+    if !*is_locked {
+        *file = Some(open_locked(rt, name)?);
+        *is_locked = true;
+    }
+    match file {
+        Some(file) => Ok(file),
+        None => Err(io::Error::from(io::ErrorKind::NotFound)),
+    }
+}
+
+fn length_of(file: &File) -> io::Result<u64>
+    ensures { IfOk result (λ n. n ≤ 2 ^ 62) }
+{
+    let len = file.metadata()?.len();
+    if len > MAX_LEN {
+        return Err(io::Error::from(io::ErrorKind::InvalidData));
+    }
+    Ok(len)
+}
+
+fn write(file: &File, at: u64, piece: &[u8]) -> io::Result<()>
+    ensures { OnOk result (at + length piece.now ≤ 2 ^ 62) }
+{
+    if at > MAX_LEN || piece.len() as u64 > MAX_LEN - at {
+        return Err(io::Error::from(io::ErrorKind::FileTooLarge));
+    }
+    file.write_all_at(piece, at)
+}
+
+impl<'r, R: Files<File = File>> DiskFile<'r, R> {
+    /// The file of this name, which is not opened yet.
+    pub fn new(rt: &'r R, name: &'static str) -> DiskFile<'r, R> {
+        DiskFile {
+            rt,
+            name,
+            file: None,
+            is_locked: false,
+        }
+    }
+
+    /// The length in bytes, 0 where there is no file.
+    pub fn len(&mut self) -> io::Result<u64>
+        ensures { IfOk result (λ n. n ≤ 2 ^ 62) }
+    {
+        match found(self.rt, self.name, &mut self.file)? {
+            Some(file) => length_of(file),
+            None => Ok(0),
+        }
+    }
+
+    /// Fills the buffer with the bytes at a place. An error where the file ends before.
+    pub fn read_at(&mut self, at: u64, buf: &mut [u8]) -> io::Result<()> {
+        match found(self.rt, self.name, &mut self.file)? {
+            Some(file) => file.read_exact_at(buf, at),
+            None => Err(io::Error::from(io::ErrorKind::UnexpectedEof)),
+        }
+    }
+
+    /// Writes the piece at a place. An error where another run has the file, or the end would pass 2^62.
+    pub fn write_at(&mut self, at: u64, piece: &[u8]) -> io::Result<()>
+        ensures { OnOk result (at + length piece.now ≤ 2 ^ 62) }
+    {
+        let file = locked(self.rt, self.name, &mut self.file, &mut self.is_locked)?;
+        write(file, at, piece)
+    }
+
+    /// Makes what was written durable. An error where another run has the file.
+    pub fn sync(&mut self) -> io::Result<()> {
+        locked(self.rt, self.name, &mut self.file, &mut self.is_locked)?.sync_all()
+    }
+}
