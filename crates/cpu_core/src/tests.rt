@@ -339,14 +339,25 @@ fn counts_a_cell_copied_twice(rt: HostRuntime) -> Result<(), Fail> {
 #[test]
 fn flips_a_bit_of_a_copy(rt: HostRuntime) -> Result<(), Fail> {
     let alloc = rt.alloc();
-    // the bits that copies of this seed flip in quantum 1 begin 4, 1, 4, 4, 3, 0
-    for (i, value) in [(0, 0x0a), (1, 0x18), (4, 0x12), (5, 0x1b)] {
+    // the rate, the number of the instruction and the copy of 0x1a; the bits that copies of this seed flip in quantum 1
+    // begin 4, 1, 4, 4, 3, 0, and that of instruction 13 is 2; at rate 2 only instruction 4 is due
+    let rows = [
+        (1, 0, 0x0a),
+        (1, 1, 0x18),
+        (1, 4, 0x12),
+        (1, 5, 0x1b),
+        (1, 13, 0x1e),
+        (2, 0, 0x1a),
+        (2, 4, 0x12),
+        (2, 13, 0x1a),
+    ];
+    for (rate, i, value) in rows {
         let mut creature = Creature {
             ax: 55,
             daughter: Some(Block { at: 50, size: 10 }),
             ..newborn()
         };
-        let (act, soup) = run(&rt, alloc, &mut creature, &[0x1a], NONE, (0, 1, i), 1)?;
+        let (act, soup) = run(&rt, alloc, &mut creature, &[0x1a], NONE, (0, rate, i), 1)?;
         assert_eq!(rt; act, Act::Wrote { at: 55, value });
         assert_eq!(rt; soup.cell(55), value);
     }

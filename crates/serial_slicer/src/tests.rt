@@ -107,7 +107,7 @@ fn the_ancestor_breeds(rt: HostRuntime) -> Result<(), Fail> {
 }
 
 /// A soup file, how many quanta it runs, and what comes of it.
-const DEATHS: [(&str, u16, &str); 3] = [
+const DEATHS: [(&str, u16, &str); 5] = [
     // nobody else is left, and there is no room
     (
         r#"
@@ -134,6 +134,39 @@ code = "nop_1 nop_1 nop_1 nop_1 nop_1 nop_1 nop_1 nop_1 nop_1 nop_1"
 "#,
         1,
         "births 0 deaths 1 living 1 filled 74 front 1 ip 25 ax 10 bx 0 cx 64 dx 0 flag 0 errors 0",
+    ),
+    // the other creature dies, and then there is no room still
+    (
+        r#"
+soup_size = 100
+mal_mult = 100
+[[creature]]
+at = 0
+code = "zero or1 shl shl shl shl shl shl shl mal"
+[[creature]]
+at = 50
+code = "nop_1 nop_1 nop_1 nop_1 nop_1 nop_1 nop_1 nop_1 nop_1 nop_1"
+"#,
+        1,
+        "births 0 deaths 1 living 1 filled 10 front 1 ip 25 ax 0 bx 0 cx 128 dx 0 flag 0 errors 1",
+    ),
+    // one slice with a mal, a copy, an error, a mal that gives up the block and lets the other die, a copy and a divide
+    (
+        r#"
+soup_size = 100
+slice_size = 14
+mal_mult = 100
+move_percent = 0
+fill_percent = 100
+[[creature]]
+at = 0
+code = "zero or1 shl shl shl shl mal mov_iab jmp shl shl mal mov_iab divide"
+[[creature]]
+at = 50
+code = "nop_1 nop_1 nop_1 nop_1 nop_1 nop_1 nop_1 nop_1 nop_1 nop_1"
+"#,
+        1,
+        "births 1 deaths 1 living 2 filled 78 front 3 ip 14 ax 0 bx 0 cx 0 dx 0 flag 0 errors 0",
     ),
     // half of the living die in quantum 2, and not the one that runs
     (
@@ -165,6 +198,84 @@ fn room_is_made_by_deaths(rt: HostRuntime) -> Result<(), Fail> {
     for (file, quanta, line) in DEATHS {
         let world = run_file(alloc, file, quanta)?;
         assert_eq!(rt; line_of(alloc, &world)?.as_str(), line);
+    }
+    Ok(())
+}
+
+/// Settings and a code at cell 0, and what comes of one quantum, worked by hand from the first draws of quantum 1: the
+/// flaws 1 and -1, the flips of bits 4 and 1 in copies, and the flip of bit 0 of cell 24505. The last number is that of
+/// the cells.
+const FIRST_DRAWS: [(&str, &str, &str, u64); 4] = [
+    (
+        "soup_size = 100\nslice_size = 2\nflaw_rate = 1",
+        "inc_a inc_b",
+        "births 0 deaths 0 living 1 filled 2 front 1 ip 2 ax 2 bx 0 cx 0 dx 0 flag 0 errors 0",
+        26,
+    ),
+    (
+        "soup_size = 100\nslice_size = 1\ncopy_rate = 1",
+        "mov_iab mov_iab",
+        "births 0 deaths 0 living 1 filled 2 front 1 ip 1 ax 0 bx 0 cx 0 dx 0 flag 0 errors 0",
+        62,
+    ),
+    (
+        "soup_size = 100\nslice_size = 2\ncopy_rate = 1",
+        "mov_iab mov_iab",
+        "births 0 deaths 0 living 1 filled 2 front 1 ip 2 ax 0 bx 0 cx 0 dx 0 flag 0 errors 0",
+        60,
+    ),
+    (
+        "slice_size = 1\nback_rate = 1",
+        "inc_a",
+        "births 0 deaths 0 living 1 filled 1 front 1 ip 1 ax 1 bx 0 cx 0 dx 0 flag 0 errors 0",
+        24_514,
+    ),
+];
+
+#[test]
+fn the_first_draws_are_worked_by_hand(rt: HostRuntime) -> Result<(), Fail> {
+    let alloc = rt.alloc();
+    for (settings, code, line, weight) in FIRST_DRAWS {
+        let file = format!(in alloc; "{settings}\n[[creature]]\nat = 0\ncode = '{code}'\n")?;
+        let world = run_file(alloc, file.as_str(), 1)?;
+        assert_eq!(rt; line_of(alloc, &world)?.as_str(), line);
+        assert_eq!(rt; weight_of(&world), weight);
+    }
+    Ok(())
+}
+
+/// A soup file of 101 cells with a creature of so many inc_a at cell 0, whose slice goes by its size.
+fn counters(alloc: Global, size: u16, parts: &str) -> Result<String, Fail> {
+    let mut file = format!(in alloc; "soup_size = 101\nslice_by_size = true\n{parts}\n")?;
+    file.push_str("[[creature]]\nat = 0\ncode = '")?;
+    for _cell in 0..size {
+        file.push_str("inc_a ")?;
+    }
+    file.push_str("'\n")?;
+    Ok(file)
+}
+
+/// Where its first slice ends, and what it counted.
+fn counted_in_a_slice(alloc: Global, file: &str) -> Result<(u32, i32), Fail> {
+    let world = run_file(alloc, file, 1)?;
+    let front = world.front();
+    Ok((front.ip, front.ax))
+}
+
+#[test]
+fn a_slice_by_size_has_bounds(rt: HostRuntime) -> Result<(), Fail> {
+    let alloc = rt.alloc();
+    // how many cells, the settings, where the slice ends, and what is counted
+    let rows = [
+        (1, "slice_num = 1\nslice_den = 4", (1, 1)),
+        (3, "slice_num = 1\nslice_den = 4", (1, 1)),
+        (8, "slice_num = 1\nslice_den = 4", (2, 2)),
+        (100, "slice_num = 100\nslice_den = 1", (1, 9_901)),
+        (101, "slice_num = 100\nslice_den = 1", (1, 10_000)),
+    ];
+    for (size, parts, want) in rows {
+        let file = counters(alloc, size, parts)?;
+        assert_eq!(rt; counted_in_a_slice(alloc, file.as_str())?, want, "{size}");
     }
     Ok(())
 }

@@ -8,7 +8,8 @@ use crate::{Kept, Seat, TurnLock};
 use std::alloc::Global;
 use std::sync::Wait;
 use std::test::Fail;
-use std::thread::{Threads, map_vec};
+use std::thread::{Threads, map_vec, sleep};
+use std::time::{Clock, Duration};
 use tierra_model::OutOfMemory;
 
 // Entries by caller.
@@ -107,6 +108,29 @@ fn work_all<R: Threads + Wait + Sync>(
     map_vec(rt, seats, &|seat| work(rt, lock, seat, times))
 }
 
+// Holds a turn for far longer than another caller looks before it parks.
+fn hold<R: Clock + Wait>(rt: &R, lock: &TurnLock<Tally>, seat: Seat) -> Seat
+    requires lock { seat.lock ≡ lock.now }
+    requires room { seat.turns < 2 ^ 40 }
+{
+    let caller = seat.caller();
+    let (turn, mut tally) = lock.take(rt, seat);
+    tally.advance(caller);
+    sleep(rt, Duration::from_millis(20));
+    lock.give(turn, tally)
+}
+
+// Each seat holds a turn in a thread.
+fn hold_all<R: Clock + Threads + Wait + Sync>(
+    rt: &R,
+    lock: &TurnLock<Tally>,
+    seats: Vec<Seat>,
+) -> Result<Vec<Seat>, OutOfMemory>
+    requires seats { All (λ s. (s.lock ≡ lock.now) × (s.turns ≡ 0)) seats.items }
+{
+    map_vec(rt, seats, &|seat| hold(rt, lock, seat))
+}
+
 #[test]
 fn each_caller_counts_its_own(rt: HostRuntime) -> Result<(), Fail> {
     let (lock, mut first) = TurnLock::of(rt.alloc(), Tally::new())?;
@@ -152,5 +176,20 @@ fn no_turn_of_a_thread_is_lost(rt: HostRuntime) -> Result<(), Fail> {
     }
     let first = lock.give(turn, tally);
     assert_eq!(rt; (first.seen(), first.own(1)), (2400, Some(0)));
+    Ok(())
+}
+
+#[test]
+fn who_waits_for_long_is_woken(rt: HostRuntime) -> Result<(), Fail> {
+    let (lock, mut first) = TurnLock::of(rt.alloc(), Tally::new())?;
+    let seats = split_all(rt.alloc(), &lock, &mut first, 5)?;
+    let seats = hold_all(&rt, &lock, seats)?;
+    for seat in &seats {
+        assert_eq!(rt; (seat.turns(), seat.own(seat.caller())), (1, Some(1)));
+    }
+    let (turn, tally) = lock.take(&rt, first);
+    assert_eq!(rt; tally.committed, 4);
+    let first = lock.give(turn, tally);
+    assert_eq!(rt; first.seen(), 4);
     Ok(())
 }
