@@ -22,7 +22,11 @@ _tierra() {
   local actions='grow run drill dump hold curve watch isles bank probe asm dis'
   local current=${COMP_WORDS[COMP_CWORD]} before=${COMP_WORDS[COMP_CWORD - 1]} action='' word options=''
   case $before in
-    --quanta | --workers | --number | --every | --looks | --isles | --epochs | '<') return ;;
+    *'<' | *'>') return ;; # a file, as bash does it
+  esac
+  compopt +o default
+  case $before in
+    --quanta | --workers | --number | --every | --looks | --isles | --epochs) return ;;
   esac
   for word in "${COMP_WORDS[@]:1:COMP_CWORD-1}"; do
     case " $actions " in
