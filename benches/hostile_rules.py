@@ -7,11 +7,14 @@ import hashlib
 import re
 import tomllib
 
-import rig
-
 NAMES = ("nop_0 nop_1 or1 shl zero if_cz sub_ab sub_ac inc_a inc_b dec_c inc_c push_ax push_bx push_cx push_dx "
          "pop_ax pop_bx pop_cx pop_dx jmp jmpb call ret mov_cd mov_ab mov_iab adr adrb adrf mal divide").split()
+CODES = {name: code for code, name in enumerate(NAMES)}
 MOST_BYTES, MOST_CODE = 1048576, 20000
+LONG = 100000  # what takes much time to read, and comes again
+answers = {}  # those of long files, by their digests
+PART = re.compile("\n+|;[^\n]*|[^ \t\r\n;]+")
+TWO_DIGITS = re.compile("[0-9a-fA-F]{2}")
 TIMED = {"quanta": (1, 4000000)}
 ACTIONS = {
     "grow": TIMED | {"workers": (1, 64)},
@@ -24,6 +27,8 @@ ACTIONS = {
     "isles": TIMED | {"epochs": (1, 1000), "isles": (1, 64), "workers": (1, 64)},
     "asm": {},
     "dis": {},
+    "hold": TIMED | {"every": (1, 4000000)},
+    "watch": TIMED | {"workers": (1, 63), "looks": (1, 1000)},
 }
 OPTIONS = {option for row in ACTIONS.values() for option in row}
 # Each key of a soup file with its range and default, in the order of the checks.
@@ -64,10 +69,13 @@ def order(words):
 
 def words_in(text):
     """Gives each word outside comments with the number of its line."""
-    for number, line in enumerate(text.split("\n"), 1):
-        for word in re.split("[ \t\r]+", line.partition(";")[0]):
-            if word:
-                yield number, word
+    line = 1
+    for found in PART.finditer(text):
+        part = found[0]
+        if part[0] == "\n":
+            line += len(part)
+        elif part[0] != ";":
+            yield line, part
 
 
 def text_fault(source):
@@ -86,9 +94,9 @@ def listing_fault(text):
     for line, word in words_in(text):
         if len(code) == MOST_CODE:
             return f"line {line}: more than 20000 instructions"
-        if word not in NAMES:
+        if word not in CODES:
             return f"line {line}: unknown instruction"
-        code.append(NAMES.index(word))
+        code.append(CODES[word])
     return code or "listing is empty"
 
 
@@ -98,7 +106,7 @@ def hex_fault(text):
     for place, (_, word) in enumerate(words_in(text), 1):
         if place > MOST_CODE:
             return "more than 20000 instructions"
-        if not re.fullmatch("[0-9a-fA-F]{2}", word):
+        if not TWO_DIGITS.fullmatch(word):
             return f"word {place}: not two hexadecimal digits"
         code.append(int(word, 16))
     if not code:
@@ -131,7 +139,17 @@ def wide(value):
 
 
 def soup_file(source):
-    """Gives the fault of a soup file, or its document with all settings; "" where these rules do not tell.
+    """Gives the fault of a soup file, or its settings; "" where these rules do not tell."""
+    if len(source) <= LONG:
+        return read_file(source)
+    digest = hashlib.sha256(source).digest()
+    if digest not in answers:
+        answers[digest] = read_file(source)
+    return answers[digest]
+
+
+def read_file(source):
+    """Gives what a soup file says.
 
     The program's reader of TOML has bounds of its own, on how deep a document goes and on the exponent of a number, takes a
     byte order mark, and knows the escapes of TOML 1.1."""
@@ -155,7 +173,7 @@ def soup_file(source):
             return f"value out of range for {key}"
     if document["max_cell"] < document["min_cell"]:
         return "value out of range for max_cell"
-    return creatures_fault(document) or document
+    return creatures_fault(document) or {key: document[key] for key in KEYS}
 
 
 def creatures_fault(document):
@@ -164,7 +182,7 @@ def creatures_fault(document):
         return "wrong kind of value for creature"
     if not creatures:
         return "no creature"
-    blocks = []
+    owners = {}
     for number, creature in enumerate(creatures, 1):
         if unknown := creature.keys() - {"at", "code"}:
             return f"unknown key creature.{shown(least(unknown))}"
@@ -178,13 +196,12 @@ def creatures_fault(document):
         code = listing_fault(creature["code"])
         if isinstance(code, str):
             return f"creature {number}: {code}"
-        begin, end = creature["at"], creature["at"] + len(code)
-        if end > document["soup_size"]:
+        block = range(creature["at"], creature["at"] + len(code))
+        if block.stop > document["soup_size"]:
             return "value out of range for creature.at"
-        for other, (first, last) in enumerate(blocks, 1):
-            if begin < last and first < end:
-                return f"creatures {other} and {number} overlap"
-        blocks.append((begin, end))
+        if others := [owners[cell] for cell in block if cell in owners]:
+            return f"creatures {min(others)} and {number} overlap"
+        owners.update(dict.fromkeys(block, number))
     return None
 
 
@@ -232,3 +249,34 @@ def bank_fault(image):
             return f"tierra.bank: group {number} is damaged"
         number += 1
     return None
+
+
+def states_in(image, every):
+    """Gives the states of a whole file of checkpoints, with their quanta."""
+    states, gate = {}, 44
+    while image[gate] == 1:
+        end = gate + 5 + int.from_bytes(image[gate + 1 : gate + 5], "big")
+        states[image[gate + 5 : end]] = every * (len(states) + 1)
+        gate = end + 32
+    return states
+
+
+def held(image, digest, states):
+    """Gives the fault of a file of checkpoints for a setup with this digest, or else the quantum that it holds, 0 for none.
+
+    An answer "" stands where only the last state could tell, and it is none of these states, which have their quanta."""
+    if len(image) < 45 or image[0] == 0 or image[0] != 0x54 and image[1:12] == b"ierra hold1":
+        return 0
+    if image[:12] != b"Tierra hold1":
+        return "tierra.hold is not a checkpoint"
+    if image[12:44] != digest:
+        return "tierra.hold belongs to another setup"
+    gate, number, state = 44, 0, None
+    while image[gate] == 1:
+        begin = gate + 5
+        end = begin + int.from_bytes(image[gate + 1 : begin], "big")
+        state, gate = image[begin:end], end + 32
+        if gate >= len(image) or hashlib.sha256(state).digest() != image[end:gate]:
+            return f"tierra.hold: frame {number} is damaged"
+        number += 1
+    return 0 if state is None else states.get(state, "")

@@ -1,6 +1,8 @@
 """Hostile inputs of each kind: valid, nearly valid, and random ones, all made from a seed."""
 
+import bisect
 import hashlib
+import itertools
 import random
 
 import hostile_rules as rules
@@ -148,21 +150,21 @@ def deep(dice):
     return (open_ + close + "\n").encode()
 
 
+def numbered(row, room):
+    """A row over and over with rising numbers, as often as there is room."""
+    rows = [row.format(number) for number in range(room // len(row.format("")) + 1)]
+    ends = list(itertools.accumulate(map(len, rows)))
+    return "".join(rows[: bisect.bisect_right(ends, room)])
+
+
 def broad(dice):
     """A document near the greatest length, with very many of one thing."""
     row = dice.choice(("k{0} = {0}\n", "[t{0}]\n", "[[t]]\n", "[[creature]]\n", "[[creature]]\nat={0}\ncode='zero'\n", "a.b{0} = 1\n", "a{0}.b = 1\n", "# {0}\n", "\n",
                        "[a.b{0}.c]\n", "[[a{0}.b]]\n", "'k{0}' = ''\n", "[t.t{0}]\nx=1\n", "creature.k{0} = 1\n"))
     if dice.randrange(6) == 0:
         return filled(dice, (b"a = 1\n", b'a = "', b"a", b"'", b"[", b"#", b"\n", b"\xff", b"1 = [1,", b'"\\u0000" = "'))
-    rows = []
-    left = MOST - dice.choice((0, 10, 500000))
-    for number in range(MOST):
-        text = row.format(number)
-        left -= len(text)
-        if left < 0:
-            break
-        rows.append(text)
-    return ("soup_size = 1048576\n"[: 20 * dice.randrange(2)] + "".join(rows)).encode()[:MOST]
+    text = numbered(row, MOST - dice.choice((0, 10, 500000)))
+    return ("soup_size = 1048576\n"[: 20 * dice.randrange(2)] + text).encode()[:MOST]
 
 
 def soup_source(dice):
@@ -239,9 +241,8 @@ def group(dice):
     return (length | two << 31).to_bytes(4, "big") + payload + hashlib.sha256(payload).digest()
 
 
-def image(dice, banks):
-    """The bytes of a genebank's file."""
-    base = dice.choice(banks)
+def image(dice, base, record):
+    """The bytes of a file that begins as this one, with records that a function makes."""
     match dice.randrange(6):
         case 0:
             return noise(dice)
@@ -252,8 +253,16 @@ def image(dice, banks):
         case 3:
             return changed(dice, base)
         case _:
-            parts = b"".join(b"\x01" + group(dice) for _ in range(dice.choice((1, 1, 2, 5))))
+            parts = b"".join(b"\x01" + record(dice) for _ in range(dice.choice((1, 1, 2, 5))))
             return base[:44] + parts + dice.choice((b"\x00", b"\x00", b"\x00", b"\x02", b"\x01", b""))
+
+
+def frame(dice, states):
+    """A frame with a right digest, whose state may be none of a sound world."""
+    state = dice.choice(states)
+    state = dice.choice((state, changed(dice, state), changed(dice, state), noise(dice)))
+    length = len(state) if dice.randrange(20) else dice.choice((0, len(state) - 1, len(state) + 1, 2**31 - 1, 2**31, 2**32 - 1)) % 2**32
+    return length.to_bytes(4, "big") + state + hashlib.sha256(state).digest()
 
 
 def dice_for(seed, number):

@@ -47,12 +47,22 @@ class Answer(NamedTuple):
     kilobytes: int
 
 
+def use(new_files, new_room):
+    """Takes a folder for the script's own files and a room for the program. Each of several processes takes others."""
+    global files, room, bank, hold, mark
+    files, room, mark = new_files, new_room, new_files / "mark"
+    bank, hold = room / "tierra.bank", room / "tierra.hold"
+
+
 program = built()
-files = new_room()
-room = new_room()
-bank = room / "tierra.bank"
-mark = files / "mark"
+use(new_room(), new_room())
 OUTPUT = os.O_WRONLY | os.O_CREAT | os.O_TRUNC
+
+
+def forget_peak():
+    """Makes the system forget the script's own greatest memory, which counts to the program that it starts."""
+    with open("/proc/self/clear_refs", "w") as file:
+        file.write("5")
 
 
 def start(words, source=None, environment=None, through=(), name=""):
@@ -69,6 +79,7 @@ def start(words, source=None, environment=None, through=(), name=""):
         (os.POSIX_SPAWN_OPEN, 2, str(files / f"line{name}"), OUTPUT, 0o666),
     ]
     os.chdir(room)
+    forget_peak()
     line = [*through, program, *words]
     return os.posix_spawnp(line[0], line, environment or {"PATH": os.environ["PATH"]}, file_actions=actions)
 
@@ -98,23 +109,47 @@ def fault(library, call, at, kind, on=False):
     return environment | ({"FAULT_ON": "1"} if on else {})
 
 
+def put(file, image):
+    """Puts a file with these bytes into the room, or none."""
+    file.write_bytes(image) if image is not None else file.unlink(missing_ok=True)
+
+
+def kept(file):
+    """The bytes of a file in the room, or None."""
+    return file.read_bytes() if file.exists() else None
+
+
 def set_bank(image):
-    """Puts this file into the room, or none."""
-    bank.write_bytes(image) if image is not None else bank.unlink(missing_ok=True)
+    """Puts this genebank into the room, or none."""
+    put(bank, image)
 
 
 def bank_bytes():
-    """The bytes of the file in the room, or None."""
-    return bank.read_bytes() if bank.exists() else None
+    """The bytes of the genebank in the room, or None."""
+    return kept(bank)
+
+
+def file_for(words):
+    """The file that an action reads and writes, or that it leaves alone."""
+    return hold if words.startswith("hold") else bank
 
 
 def whole(words, source=None, image=None):
     """The answer of a run that nothing disturbs, and the file that it leaves."""
-    set_bank(image)
+    put(file_for(words), image)
     answer = run(words, source)
     if answer.status != 0:
         sys.exit(f"{words}: status {answer.status}: {answer.line!r}")
-    return answer, bank_bytes()
+    return answer, kept(file_for(words))
+
+
+def goes_on(words, whole, told, again):
+    """Whether a run told what is left of the whole text after one that told its beginning. Only a `hold` leaves out what is held."""
+    if not words.startswith("hold"):
+        return again == whole
+    before = whole[: len(whole) - len(again)]
+    lines = before.count(b"\n")
+    return whole.endswith(again) and lines == before.count(b"held ") >= told[: told.rfind(b"\n") + 1].count(b"held ")
 
 
 faulty = []
@@ -149,5 +184,6 @@ def creature(at, code):
 
 
 one_file = creature(0, names).encode()
+held_file = b"soup_size = 400\n" + one_file
 two_file = f'soup_size = 100\n{creature(0, ["inc_b", "mov_iab"])}{creature(90, ["nop_1"] * 5)}'.encode()
 three_file = "".join(creature(at, names[:79] + [last]) for at, last in [(0, "if_cz"), (1000, "inc_a"), (2000, "dec_c")]).encode()
