@@ -55,6 +55,3 @@ fn counted<L: Ledger>(
     }
     Ok(sole.into_running().finish())
 }
-
-#[cfg(test)]
-mod tests;

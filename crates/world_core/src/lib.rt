@@ -17,6 +17,3 @@ mod world;
 pub use prepared::Prepared;
 pub use running::Running;
 pub use world::World;
-
-#[cfg(test)]
-mod tests;

@@ -1,45 +1,22 @@
-use super::*;
-use soup_file::read_setup;
+//! Runs of one creature at a time.
+
+use crate::looks::{bytes_of, run_of, told_again};
+use std::alloc::Global;
 use std::test::Fail;
-use tierra_model::{Effort, Now};
-
-const ANCESTOR: &str = "
-nop_1 nop_1 nop_1 nop_1 zero or1 shl shl mov_cd adrb nop_0 nop_0 nop_0 nop_0 sub_ac mov_ab
-adrf nop_0 nop_0 nop_0 nop_1 inc_a sub_ab nop_1 nop_1 nop_0 nop_1 mal call nop_0 nop_0 nop_1
-nop_1 divide jmp nop_0 nop_0 nop_1 nop_0 if_cz nop_1 nop_1 nop_0 nop_0 push_ax push_bx push_cx nop_1
-nop_0 nop_1 nop_0 mov_iab dec_c if_cz jmp nop_0 nop_1 nop_0 nop_0 inc_a inc_b jmp nop_0 nop_1
-nop_0 nop_1 if_cz nop_1 nop_0 nop_1 nop_1 pop_cx pop_bx pop_ax ret nop_1 nop_1 nop_1 nop_0 if_cz
-";
-
-/// The world after so many quanta of the setup of a soup file.
-fn run_file(alloc: Global, file: &str, quanta: u16) -> Result<World, Fail> {
-    let setup = read_setup(alloc, file.as_bytes())?;
-    Ok(run_serial(alloc, &setup, u64::from(quanta))?)
-}
-
-/// The world after so many quanta of the ancestor, with these settings.
-fn run_ancestor(alloc: Global, settings: &str, quanta: u16) -> Result<World, Fail> {
-    let file = format!(in alloc;
-        "{settings}\n[[creature]]\nat = 0\ncode = \"\"\"{ANCESTOR}\"\"\"\n"
-    )?;
-    run_file(alloc, file.as_str(), quanta)
-}
+use test_soups::{ancestor_file, setup_of};
+use tierra_model::{Effort, Now, OutOfMemory, Setup};
+use world_core::World;
 
 /// The counts of a world, and the creature at the front of the slicer queue.
-fn line_of(alloc: Global, world: &World) -> Result<String, Fail> {
-    let front = world.front();
-    let counts = format!(in alloc;
-        "births {} deaths {} living {} filled {}",
-        world.births(),
-        world.deaths(),
-        world.yard_len(),
-        world.filled()
-    )?;
-    let line = format!(in alloc;
-        "{counts} front {} ip {} ax {} bx {} cx {} dx {} flag {} errors {}",
+fn line_of(alloc: Global, world: &World) -> Result<String, OutOfMemory> {
+    let (births, deaths) = (world.births(), world.deaths());
+    let (living, filled) = (world.yard_len(), world.filled());
+    let front = *world.front();
+    format!(in alloc;
+        "births {births} deaths {deaths} living {living} filled {filled} \
+         front {} ip {} ax {} bx {} cx {} dx {} flag {} errors {}",
         front.id, front.ip, front.ax, front.bx, front.cx, front.dx, front.flag, front.errors
-    )?;
-    Ok(line)
+    )
 }
 
 /// The sum over all cells of the cell's number, counted from 1, times what it holds.
@@ -50,6 +27,12 @@ fn weight_of(world: &World) -> u64 {
         weight = weight.wrapping_add((u64::from(at) + 1) * cell);
     }
     weight
+}
+
+/// The line and the weight of the world after so many quanta of a soup file.
+fn run_file(alloc: Global, file: &str, quanta: u16) -> Result<(String, u64), Fail> {
+    let world = run_of(alloc, &setup_of(alloc, file)?, quanta)?;
+    Ok((line_of(alloc, &world)?, weight_of(&world)))
 }
 
 /// The first and the second effort of genotype 0.
@@ -63,6 +46,7 @@ fn efforts_of(world: &World) -> (Option<Effort>, Option<Effort>) {
 #[test]
 fn the_ancestor_breeds(rt: HostRuntime) -> Result<(), Fail> {
     let alloc = rt.alloc();
+    let setup = setup_of(alloc, &ancestor_file(alloc, "")?)?;
     let first = Some(Effort {
         ran: 839,
         moved: 80,
@@ -99,7 +83,7 @@ fn the_ancestor_breeds(rt: HostRuntime) -> Result<(), Fail> {
         ),
     ];
     for (quanta, line, efforts) in rows {
-        let world = run_ancestor(alloc, "", quanta)?;
+        let world = run_of(alloc, &setup, quanta)?;
         assert_eq!(rt; line_of(alloc, &world)?.as_str(), line);
         assert_eq!(rt; efforts_of(&world), efforts);
     }
@@ -196,8 +180,8 @@ code = "dec_c"
 fn room_is_made_by_deaths(rt: HostRuntime) -> Result<(), Fail> {
     let alloc = rt.alloc();
     for (file, quanta, line) in DEATHS {
-        let world = run_file(alloc, file, quanta)?;
-        assert_eq!(rt; line_of(alloc, &world)?.as_str(), line);
+        let (told, _) = run_file(alloc, file, quanta)?;
+        assert_eq!(rt; told.as_str(), line);
     }
     Ok(())
 }
@@ -237,9 +221,9 @@ fn the_first_draws_are_worked_by_hand(rt: HostRuntime) -> Result<(), Fail> {
     let alloc = rt.alloc();
     for (settings, code, line, weight) in FIRST_DRAWS {
         let file = format!(in alloc; "{settings}\n[[creature]]\nat = 0\ncode = '{code}'\n")?;
-        let world = run_file(alloc, file.as_str(), 1)?;
-        assert_eq!(rt; line_of(alloc, &world)?.as_str(), line);
-        assert_eq!(rt; weight_of(&world), weight);
+        let (told, sum) = run_file(alloc, &file, 1)?;
+        assert_eq!(rt; told.as_str(), line);
+        assert_eq!(rt; sum, weight);
     }
     Ok(())
 }
@@ -257,7 +241,7 @@ fn counters(alloc: Global, size: u16, parts: &str) -> Result<String, Fail> {
 
 /// Where its first slice ends, and what it counted.
 fn counted_in_a_slice(alloc: Global, file: &str) -> Result<(u32, i32), Fail> {
-    let world = run_file(alloc, file, 1)?;
+    let world = run_of(alloc, &setup_of(alloc, file)?, 1)?;
     let front = world.front();
     Ok((front.ip, front.ax))
 }
@@ -339,9 +323,10 @@ fn draws_change_a_run(rt: HostRuntime) -> Result<(), Fail> {
     let alloc = rt.alloc();
     for (settings, quanta, line, weight) in DRAWN {
         let settings = format!(in alloc; "soup_size = 500\n{settings}")?;
-        let world = run_ancestor(alloc, settings.as_str(), quanta)?;
-        assert_eq!(rt; line_of(alloc, &world)?.as_str(), line);
-        assert_eq!(rt; weight_of(&world), weight);
+        let file = ancestor_file(alloc, &settings)?;
+        let (told, sum) = run_file(alloc, &file, quanta)?;
+        assert_eq!(rt; told.as_str(), line);
+        assert_eq!(rt; sum, weight);
     }
     Ok(())
 }
@@ -364,9 +349,10 @@ const FULL: [(&str, &str, u64); 2] = [
 fn a_full_soup_goes_on(rt: HostRuntime) -> Result<(), Fail> {
     let alloc = rt.alloc();
     for (settings, line, weight) in FULL {
-        let world = run_ancestor(alloc, settings, 20_000)?;
-        assert_eq!(rt; line_of(alloc, &world)?.as_str(), line);
-        assert_eq!(rt; weight_of(&world), weight);
+        let file = ancestor_file(alloc, settings)?;
+        let (told, sum) = run_file(alloc, &file, 20_000)?;
+        assert_eq!(rt; told.as_str(), line);
+        assert_eq!(rt; sum, weight);
     }
     Ok(())
 }
@@ -375,25 +361,18 @@ fn a_full_soup_goes_on(rt: HostRuntime) -> Result<(), Fail> {
 const MUTATING: &str =
     "soup_size = 500\nsave_at = 1\nback_rate = 40\ncopy_rate = 50\nflaw_rate = 100";
 
-/// Whether the world's bytes give a world with the same bytes.
-fn is_restored(alloc: Global, world: &World) -> Result<bool, Fail> {
-    let bytes = world.state_bytes(alloc)?;
-    match World::restore(alloc, world.settings(), &bytes.items)? {
-        Some(again) => Ok(again.state_bytes(alloc)?.items.as_slice() == bytes.items.as_slice()),
-        None => Ok(false),
-    }
-}
-
-/// The same of the world after so many quanta.
-fn is_restored_after(alloc: Global, quanta: u16) -> Result<bool, Fail> {
-    let world = run_ancestor(alloc, MUTATING, quanta)?;
-    is_restored(alloc, &world)
+/// Whether the world after so many quanta is restored from its bytes, and tells them again.
+fn is_restored_after(alloc: Global, setup: &Setup, quanta: u16) -> Result<bool, OutOfMemory> {
+    let world = run_of(alloc, setup, quanta)?;
+    let bytes = bytes_of(alloc, &world)?;
+    Ok(told_again(alloc, setup, &bytes)? == Some(true))
 }
 
 #[test]
 fn worlds_along_a_run_are_restored(rt: HostRuntime) -> Result<(), Fail> {
+    let setup = setup_of(rt.alloc(), &ancestor_file(rt.alloc(), MUTATING)?)?;
     for part in 0..200 {
-        assert!(rt; is_restored_after(rt.alloc(), 3 * part)?, "{part}");
+        assert!(rt; is_restored_after(rt.alloc(), &setup, 3 * part)?, "{part}");
     }
     Ok(())
 }

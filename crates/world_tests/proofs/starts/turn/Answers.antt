@@ -1,0 +1,14 @@
+use Rattle.std.proofs.Common.{◌<◌, List, arith, subst, sym}
+use Rattle.tierra_model.specs.declared.creatures.Creature.{Creature}
+use Rattle.tierra_model.specs.declared.events.Event.{Event}
+use Rattle.tierra_model.specs.Replay.{EventsFit}
+use Rattle.world_core.proofs.NothingHappens.{nothing-fits}
+use Rattle.world_tests.proofs.starts.turn.Goals as goal
+
+pub prepare-requires : goal.prepare-requires
+prepare-requires c =
+    let w = c.args.world.now.world in
+    let early : w.quanta < 4000000 = omega arith in
+    let none = sym c.no_events.ensures in
+    let same = sym c.front.ensures in
+    subst (λ (r : List Event × Creature). EventsFit r.0 r.1 w) (λ j. (none j, same j)) (nothing-fits w c.settings-sound.ensures.sound early)

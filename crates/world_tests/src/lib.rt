@@ -1,0 +1,11 @@
+//! Tests of worlds: how they begin, their bytes, and runs of one creature at a time.
+#![tactic(auto)]
+
+#[cfg(test)]
+mod bytes;
+#[cfg(test)]
+mod looks;
+#[cfg(test)]
+mod runs;
+#[cfg(test)]
+mod starts;
