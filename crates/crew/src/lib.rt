@@ -10,8 +10,6 @@ mod hand;
 mod handing;
 mod lead;
 mod runs;
-#[cfg(test)]
-mod tests;
 mod turns;
 mod worker;
 

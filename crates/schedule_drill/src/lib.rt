@@ -5,8 +5,6 @@
 mod drill;
 mod moves;
 mod tally;
-#[cfg(test)]
-mod tests;
 mod text;
 
 pub use drill::{Played, play};

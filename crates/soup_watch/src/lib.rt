@@ -13,6 +13,3 @@ pub use sight::{Count, CountList, Sight, sight_of};
 pub use sights::Sights;
 pub use text::sights_text;
 pub use watching::watch;
-
-#[cfg(test)]
-mod tests;

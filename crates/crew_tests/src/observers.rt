@@ -3,31 +3,21 @@
 ghost use Rattle.std.specs.Prelude.{◌≡◌, ◌^◌, ◌+◌, ◌<◌, ◌≤◌, [], IfOk, IfSome, OnOk};
 ghost use Rattle.soup_watch.specs.Seeing.{last_of};
 
-use crate::{Count, Sights, look, sight_of, sights_text, watch};
 use commit_book::Book;
 use crew::FreeGate;
 use serial_slicer::run_serial;
-use soup_file::read_setup;
+use soup_watch::{Count, Sight, Sights, look, sight_of, sights_text, watch};
 use std::alloc::Global;
 use std::marker::Brand;
 use std::sync::Wait;
 use std::sync::ledger::{Blank, Ledger};
 use std::test::Fail;
+use std::thread::Threads;
 use step_count::Steps;
-use tierra_model::{Name, OutOfMemory, Setup, Text};
+use test_soups::{TWO, setup_of};
+use tierra_model::{Name, OutOfMemory, Text};
 use turn_lock::{Seat, TurnLock};
 use world_core::World;
-
-/// Creature 1 copies its second cell over its first, and creature 2 does nothing until it runs into creature 1.
-const TWO: &str = r#"
-soup_size = 100
-[[creature]]
-at = 0
-code = "inc_b mov_iab"
-[[creature]]
-at = 90
-code = "nop_1 nop_1 nop_1 nop_1 nop_1"
-"#;
 
 /// Four genotypes, of which the first and the third die in quantum 2.
 const HALVED: &str = r#"
@@ -67,23 +57,36 @@ at = 30
 code = "inc_b"
 "#;
 
-fn setup_of(alloc: Global, file: &str) -> Result<Setup, Fail> {
-    Ok(read_setup(alloc, file.as_bytes())?)
+fn seen(alloc: Global, world: &World) -> Result<Sight, OutOfMemory> {
+    sight_of(alloc, world)
+}
+
+/// The world after so many quanta of a soup file.
+fn world_after(alloc: Global, file: &str, quanta: u16) -> Result<World, Fail> {
+    Ok(run_serial(alloc, &setup_of(alloc, file)?, u64::from(quanta))?)
+}
+
+fn text_of(alloc: Global, sights: &Sights) -> Result<Text, OutOfMemory> {
+    sights_text(alloc, sights)
+}
+
+/// What is told of one sight.
+fn told_alone(alloc: Global, sight: Sight) -> Result<Text, OutOfMemory> {
+    let mut sights = Sights::new(alloc);
+    sights.reserve(1)?;
+    sights.add(sight);
+    text_of(alloc, &sights)
 }
 
 /// What is told of the world after so many quanta.
 fn told(alloc: Global, file: &str, quanta: u16) -> Result<Text, Fail> {
-    let world = run_serial(alloc, &setup_of(alloc, file)?, u64::from(quanta))?;
-    let mut sights = Sights::new(alloc);
-    sights.reserve(1)?;
-    sights.add(sight_of(alloc, &world)?);
-    Ok(sights_text(alloc, &sights)?)
+    let world = world_after(alloc, file, quanta)?;
+    Ok(told_alone(alloc, seen(alloc, &world)?)?)
 }
 
 #[test]
 fn the_living_are_counted(rt: HostRuntime) -> Result<(), Fail> {
-    let world = World::start(rt.alloc(), &setup_of(rt.alloc(), TWO)?)?;
-    let sight = sight_of(rt.alloc(), &world)?;
+    let sight = seen(rt.alloc(), &world_after(rt.alloc(), TWO, 0)?)?;
     assert_eq!(rt;
         [sight.quanta, sight.births, sight.deaths, sight.living],
         [0, 0, 0, 2]
@@ -127,7 +130,7 @@ fn sights_are_told(rt: HostRuntime) -> Result<(), Fail> {
             text.as_bytes()
         );
     }
-    let none = sights_text(rt.alloc(), &Sights::new(rt.alloc()))?;
+    let none = text_of(rt.alloc(), &Sights::new(rt.alloc()))?;
     assert_eq!(rt; none.items.len(), 0);
     Ok(())
 }
@@ -228,7 +231,7 @@ fn an_observer_sees_what_is_committed(rt: HostRuntime) -> Result<(), Fail> {
         [seat.own(1), seat.own(2), seat.own(3)],
         [Some(2), Some(0), None]
     );
-    let text = sights_text(rt.alloc(), &sights)?;
+    let text = text_of(rt.alloc(), &sights)?;
     let lines = "sight quanta 0 births 0 deaths 0 living 2\n0002aaa 1 1\n0005aaa 1 1\n\
         sight quanta 1 births 0 deaths 0 living 2\n0002aaa 1 1\n0005aaa 1 1\n\
         sight quanta 2 births 0 deaths 0 living 2\n0002aaa 1 1\n0005aaa 1 1\n";
@@ -236,14 +239,21 @@ fn an_observer_sees_what_is_committed(rt: HostRuntime) -> Result<(), Fail> {
     Ok(())
 }
 
+/// The text of a run of two quanta with three looks.
+fn watched_run<R: Threads + Wait + Sync>(rt: &R, alloc: Global, workers: u32) -> Result<Text, Fail>
+    requires { (1 ≤ workers) × (workers ≤ 63) }
+{
+    let setup = setup_of(alloc, TWO)?;
+    Ok(watch(rt, alloc, &FreeGate, setup, 2, workers, 3)?)
+}
+
 #[test]
 fn a_watched_run_ends_in_its_report(rt: HostRuntime) -> Result<(), Fail> {
     let end = "sight quanta 2 births 0 deaths 0 living 2\n0002aaa 1 1\n0005aaa 1 1\n\
         quanta 2\nbirths 0\ndeaths 0\nliving 2\nfilled 7\n\
         front 1 ip 25 ax 0 bx 1 cx 0 dx 0 flag 0 errors 0\ngenotypes 2\nkept 0\n0002aaa 1 1\n0005aaa 1 1\n";
-    let alloc = rt.alloc();
     for workers in [1u32, 2, 63] {
-        let text = watch(&rt, alloc, &FreeGate, setup_of(alloc, TWO)?, 2, workers, 3)?;
+        let text = watched_run(&rt, rt.alloc(), workers)?;
         let text = str::from_utf8(&text.items)?;
         assert_eq!(rt; text.split("sight").count(), 5, "{workers} workers");
         assert!(rt; text.ends_with(end), "{workers} workers");

@@ -1,55 +1,16 @@
 //! Runs of two creatures, with gates that see who works.
 
-ghost use Rattle.std.specs.Prelude.{◌≡◌, ◌≤◌, IfOk, length};
-ghost use Rattle.tierra_model.specs.Ranges.{IsCode};
+ghost use Rattle.std.specs.Prelude.{◌≡◌, ◌≤◌, IfOk};
 
-use crate::{Gate, Hand, Next, Ran, run_crew};
 use commit_book::{Book, Claim};
+use crew::{Gate, Hand, Next, Ran, run_crew};
 use std::alloc::Global;
 use std::snapshot::Snapshot;
 use std::sync::atomic::{AtomicBool, AtomicU64, Ordering};
 use std::test::Fail;
 use std::thread::yield_now;
-use tierra_model::{Code, Groups, How, Inoculum, OutOfMemory, SeedList, Setup, grow_setup};
-
-fn mover(alloc: Global) -> Result<Code, OutOfMemory>
-    ensures code { IfOk result (λ code. IsCode code) }
-    ensures long { IfOk result (λ code. length code ≡ 2) }
-{
-    let mut items = Vec::new(alloc);
-    items.push(9)?;
-    items.push(26)?;
-    Ok(Code { items })
-}
-
-fn five_nops(alloc: Global) -> Result<Code, OutOfMemory>
-    ensures code { IfOk result (λ code. IsCode code) }
-    ensures long { IfOk result (λ code. length code ≡ 5) }
-{
-    let items = vec![in alloc; 1; 5]?;
-    Ok(Code { items })
-}
-
-// A hundred cells, with a creature at cell 0 that writes into its own first cell, and one at cell 90 that does nothing.
-fn two_creatures(alloc: Global, save_at: u32) -> Result<Setup, OutOfMemory>
-    requires { (1 ≤ save_at) × (save_at ≤ 2) }
-{
-    let mut settings = grow_setup(alloc, mover(alloc)?)?.settings;
-    settings.soup_size = 100;
-    settings.save_at = save_at;
-    let mut items = Vec::new(alloc);
-    let (first, second) = (mover(alloc)?, five_nops(alloc)?);
-    items.push(Inoculum { at: 0, code: first })?;
-    items.push(Inoculum {
-        at: 90,
-        code: second,
-    })?;
-    let creatures = SeedList { items };
-    Ok(Setup {
-        settings,
-        creatures,
-    })
-}
+use test_soups::{TWO, setup_of};
+use tierra_model::{Groups, How, Setup};
 
 // Counts the groups and the calls, and halts at the first groups where it is to.
 #[derive(Drop)]
@@ -169,19 +130,22 @@ impl Gate for CountGate {
     }
 }
 
-// A book of 200 quanta of the two creatures, and a hand for it.
+// The two creatures, each of a genotype that is saved at once.
+const SAVED: &str = "soup_size = 100\nsave_at = 1\n[[creature]]\nat = 0\ncode = 'inc_b mov_iab'\n\
+    [[creature]]\nat = 90\ncode = 'nop_1 nop_1 nop_1 nop_1 nop_1'\n";
+
+// A book of 200 quanta of a soup file, and a hand for it.
 fn begin(
     alloc: Global,
     window: u32,
-    save_at: u32,
+    file: &str,
     is_to_halt: bool,
-) -> Result<(Book, CountHand), OutOfMemory>
-    requires window { (1 ≤ window) × (window ≤ 128) }
-    requires save_at { (1 ≤ save_at) × (save_at ≤ 2) }
+) -> Result<(Book, CountHand), Fail>
+    requires { (1 ≤ window) × (window ≤ 128) }
     ensures book { IfOk result (λ r. (r.0.committed ≡ 0) × (r.1.setup.value ≡ r.0.setup) × (r.1.quanta ≡ r.0.quanta)) }
     ensures hand { IfOk result (λ r. (r.1.done ≡ 0) × (r.1.halts ≡ 0)) }
 {
-    let setup = two_creatures(alloc, save_at)?;
+    let setup = setup_of(alloc, file)?;
     let hand = CountHand {
         setup: Snapshot::of(&setup),
         quanta: 200,
@@ -195,7 +159,7 @@ fn begin(
 
 #[test]
 fn a_hold_ends_by_another_worker(rt: HostRuntime) -> Result<(), Fail> {
-    let (book, mut hand) = begin(rt.alloc(), 6, 2, false)?;
+    let (book, mut hand) = begin(rt.alloc(), 6, TWO, false)?;
     let gate = HoldGate::new();
     let ran = run_crew(&rt, rt.alloc(), book, 3, &gate, &mut hand);
     assert!(rt; matches!(ran, Ran::Ended(_)));
@@ -206,7 +170,7 @@ fn a_hold_ends_by_another_worker(rt: HostRuntime) -> Result<(), Fail> {
 
 #[test]
 fn one_worker_runs_each_quantum(rt: HostRuntime) -> Result<(), Fail> {
-    let (book, mut hand) = begin(rt.alloc(), 2, 2, false)?;
+    let (book, mut hand) = begin(rt.alloc(), 2, TWO, false)?;
     let gate = CountGate::new();
     let ran = run_crew(&rt, rt.alloc(), book, 1, &gate, &mut hand);
     let Ran::Ended(book) = ran else {
@@ -228,7 +192,7 @@ fn one_worker_runs_each_quantum(rt: HostRuntime) -> Result<(), Fail> {
 #[test]
 fn each_group_is_handed_over(rt: HostRuntime) -> Result<(), Fail> {
     for workers in [1, 2, 3, 64] {
-        let (book, mut hand) = begin(rt.alloc(), 2 * workers, 1, false)?;
+        let (book, mut hand) = begin(rt.alloc(), 2 * workers, SAVED, false)?;
         let ran = run_crew(&rt, rt.alloc(), book, workers, &CountGate::new(), &mut hand);
         let Ran::Ended(book) = ran else {
             panic!(rt; "not ended")
@@ -242,7 +206,7 @@ fn each_group_is_handed_over(rt: HostRuntime) -> Result<(), Fail> {
 #[test]
 fn a_hand_that_halts_stops_the_book(rt: HostRuntime) -> Result<(), Fail> {
     for workers in [1, 3] {
-        let (book, mut hand) = begin(rt.alloc(), 2 * workers, 1, true)?;
+        let (book, mut hand) = begin(rt.alloc(), 2 * workers, SAVED, true)?;
         let ran = run_crew(&rt, rt.alloc(), book, workers, &CountGate::new(), &mut hand);
         let Ran::Halted(mut book) = ran else {
             panic!(rt; "not halted")

@@ -2,7 +2,7 @@ use Rattle.std.proofs.Common.{◌≡◌, All, List, sym, subst}
 use Rattle.std.proofs.lemmas.List.Elements.{All-push}
 use Rattle.schedule_drill.specs.declared.moves.Move.{Move}
 use Rattle.schedule_drill.specs.Moves.{IsOfHand}
-use Rattle.schedule_drill.proofs.tests.moves_of.Goals as goal
+use Rattle.crew_tests.proofs.schedules.moves_of.Goals as goal
 
 pub loop-word-preserved : goal.loop-word-preserved
 loop-word-preserved c =

@@ -1,9 +1,8 @@
 //! A book hands out jobs, and stands behind the turn lock.
 
-ghost use Rattle.std.specs.Prelude.{◌≡◌, ◌^◌, ◌<◌, IfOk, length};
-ghost use Rattle.tierra_model.specs.Ranges.{IsCode};
+ghost use Rattle.std.specs.Prelude.{◌≡◌, ◌^◌, ◌<◌};
 
-use crate::{Advanced, Book, Claim};
+use commit_book::{Advanced, Book, Claim};
 use quantum_run::{Finding, Job};
 use std::alloc::Global;
 use std::marker::Brand;
@@ -12,32 +11,11 @@ use std::sync::Wait;
 use std::sync::ledger::{Blank, Ledger};
 use std::test::Fail;
 use step_count::Steps;
-use tierra_model::{Code, Inoculum, OutOfMemory, SeedList, Setup, grow_setup};
+use test_soups::setup_of;
 use turn_lock::{Seat, TurnLock};
 
-fn two_cells(alloc: Global) -> Result<Code, OutOfMemory>
-    ensures code { IfOk result (λ code. IsCode code) }
-    ensures long { IfOk result (λ code. length code ≡ 2) }
-{
-    let mut items = Vec::new(alloc);
-    items.push(9)?;
-    items.push(26)?;
-    Ok(Code { items })
-}
-
 // A hundred cells, with one creature at cell 5.
-fn small_setup(alloc: Global) -> Result<Setup, OutOfMemory> {
-    let mut settings = grow_setup(alloc, two_cells(alloc)?)?.settings;
-    settings.soup_size = 100;
-    let code = two_cells(alloc)?;
-    let mut items = Vec::new(alloc);
-    items.push(Inoculum { at: 5, code })?;
-    let creatures = SeedList { items };
-    Ok(Setup {
-        settings,
-        creatures,
-    })
-}
+const ONE: &str = "soup_size = 100\n[[creature]]\nat = 5\ncode = 'inc_b mov_iab'\n";
 
 fn counted<R: Abort, L: Ledger>(rt: &R, alloc: Global, blank: Blank) -> Result<(), Fail>
     requires name { blank.name ≡ L.name }
@@ -45,7 +23,7 @@ fn counted<R: Abort, L: Ledger>(rt: &R, alloc: Global, blank: Blank) -> Result<(
     requires some { 0 < L.parts }
 {
     let mut steps = Steps::<L>::start(blank);
-    let mut book = Book::begin(alloc, small_setup(alloc)?, 2, 4)?;
+    let mut book = Book::begin(alloc, setup_of(alloc, ONE)?, 2, 4)?;
     let Claim::Job(job) = book.claim(alloc) else {
         panic!(rt; "no job")
     };
