@@ -1,8 +1,11 @@
 //! Runs that keep checkpoints.
 
-use super::genebank::{Ended, NO_FAULTS, call_over, calls_of};
-use super::*;
+use crate::runs::call_over;
 use soup_checkpoint::HoldFault;
+use soup_top::Status;
+use std::test::Fail;
+use test_calls::{call, line_of};
+use test_soups::ancestor_file;
 
 const WORDS: &str = "hold --quanta 100 --every 34";
 
@@ -14,19 +17,13 @@ const TEXT: &str = "held 34\nheld 68\nquanta 100\nbirths 2\ndeaths 0\nliving 3\n
 fn a_run_goes_on_from_its_checkpoint(rt: HostRuntime) -> Result<(), Fail> {
     let alloc = rt.alloc();
     let source = ancestor_file(alloc, "")?;
-    let Ended { status, desk } = call_over(&rt, alloc, WORDS, &source, b"", &NO_FAULTS)?;
-    assert_eq!(rt; status, Status::Done);
-    assert_eq!(rt; desk.told().as_slice(), TEXT.as_bytes());
-    assert_eq!(rt; calls_of(alloc, &desk)?.as_str(), "SLWSWSWSWSWSTWSWSTT");
-    let file = desk.crash(0)?;
+    let ended = call(&rt, alloc, WORDS, &source)?;
+    assert!(rt; ended.is_done(TEXT));
+    assert_eq!(rt; ended.calls.as_str(), "SLWSWSWSWSWSTWSWSTT");
     let longer = "hold --quanta 101 --every 34";
-    let Ended { status, desk } = call_over(&rt, alloc, longer, &source, &file, &NO_FAULTS)?;
-    assert_eq!(rt; status, Status::Done);
-    assert!(rt;
-        desk.told()
-            .as_slice()
-            .starts_with(b"quanta 101\nbirths 3\n")
-    );
+    let ended = call_over(&rt, alloc, longer, &source, &ended.file(0)?)?;
+    assert_eq!(rt; ended.status, Status::Done);
+    assert!(rt; ended.told.as_slice().starts_with(b"quanta 101\nbirths 3\n"));
     Ok(())
 }
 
@@ -34,14 +31,15 @@ fn a_run_goes_on_from_its_checkpoint(rt: HostRuntime) -> Result<(), Fail> {
 fn a_shorter_run_refuses_the_checkpoint(rt: HostRuntime) -> Result<(), Fail> {
     let alloc = rt.alloc();
     let source = ancestor_file(alloc, "")?;
-    let Ended { status, desk } = call_over(&rt, alloc, WORDS, &source, b"", &NO_FAULTS)?;
-    assert_eq!(rt; status, Status::Done);
-    let file = desk.crash(0)?;
-    let shorter = "hold --quanta 50";
-    let Ended { status, desk } = call_over(&rt, alloc, shorter, &source, &file, &NO_FAULTS)?;
-    assert_eq!(rt; status, Status::HoldRefused(HoldFault::Beyond { held: 68 }));
-    assert!(rt; desk.told().is_empty());
-    assert_eq!(rt; calls_of(alloc, &desk)?.as_str(), "SLRR");
+    let ended = call(&rt, alloc, WORDS, &source)?;
+    assert_eq!(rt; ended.status, Status::Done);
+    let ended = call_over(&rt, alloc, "hold --quanta 50", &source, &ended.file(0)?)?;
+    assert_eq!(rt;
+        ended.status,
+        Status::HoldRefused(HoldFault::Beyond { held: 68 })
+    );
+    assert!(rt; ended.told.is_empty());
+    assert_eq!(rt; ended.calls.as_str(), "SLRR");
     Ok(())
 }
 
@@ -71,10 +69,7 @@ fn refused_checkpoints_have_their_line(rt: HostRuntime) -> Result<(), Fail> {
         let status = Status::HoldRefused(fault);
         let line = format!(in alloc; "tierra: {reason}\n")?;
         assert_eq!(rt; status.number(), 8);
-        assert_eq!(rt;
-            status_text(alloc, &status)?.items.as_slice(),
-            line.as_bytes()
-        );
+        assert_eq!(rt; line_of(alloc, &status)?.as_slice(), line.as_bytes());
     }
     Ok(())
 }

@@ -1,9 +1,15 @@
 //! Runs with gates that see who works.
 
-use super::*;
 use crew::Gate;
+use soup_top::Status;
+use std::alloc::Global;
+use std::sync::Wait;
 use std::sync::atomic::{AtomicBool, AtomicU64, Ordering};
-use std::thread::yield_now;
+use std::test::Fail;
+use std::thread::{Threads, yield_now};
+use test_calls::{PLAIN, call_beside};
+use test_soups::TWO;
+use tierra_model::OutOfMemory;
 
 /// Counts the calls. It may hold the first `before` of the run until an `after` of another worker came, for at most
 /// 50,000,000 turns.
@@ -70,18 +76,9 @@ fn run_watched<R: Threads + Wait + Sync>(
     alloc: Global,
     words: &str,
     gate: &Watch,
-) -> Result<Status, Fail> {
-    let words = words_of(alloc, words)?;
-    let source = TWO_FILE.as_bytes().to_vec(alloc)?;
-    let mut source = MemSource::new(source, 4096, Vec::new(alloc));
-    let mut desk = MemDesk::new(
-        alloc,
-        Vec::new(alloc),
-        Vec::new(alloc),
-        Vec::new(alloc),
-        None,
-    );
-    Ok(tierra(rt, alloc, &words, &mut source, &mut desk, gate))
+) -> Result<Status, OutOfMemory> {
+    let ended = call_beside(rt, alloc, words, TWO.as_bytes(), &PLAIN, gate)?;
+    Ok(ended.status)
 }
 
 #[test]

@@ -1,0 +1,587 @@
+//! Runs that keep their genebank. The banks were worked out apart from this program, and are known by their lengths and
+//! their SHA-256 digests.
+
+use bank_recover::{BankFault, groups_of};
+use sha2::{Digest, Sha256};
+use soup_top::Status;
+use std::alloc::Global;
+use std::sync::Wait;
+use std::test::Fail;
+use std::thread::Threads;
+use test_calls::{Ended, Given, PLAIN, call, call_with, line_of};
+use test_soups::{ANCESTOR, ANCESTOR_HEX, GROWN};
+use tierra_model::OutOfMemory;
+
+const SETUP_OF_ONE: [u8; 32] = [
+    0x0d, 0xf5, 0x60, 0x1d, 0x2d, 0xd9, 0x5a, 0x2c, 0x4a, 0xaf, 0x3d, 0xf2, 0x4c, 0x1b, 0x91, 0x31,
+    0x2a, 0xca, 0x88, 0xf4, 0xfc, 0xc8, 0x84, 0xff, 0xef, 0x8e, 0x59, 0x3d, 0xe7, 0x0d, 0xe4, 0x38,
+];
+
+const SETUP_OF_THREE: [u8; 32] = [
+    0x67, 0xae, 0x31, 0x1c, 0x75, 0xae, 0x4e, 0x32, 0x96, 0xe7, 0x5b, 0xe6, 0x08, 0x6a, 0x45, 0x3d,
+    0x1b, 0x9b, 0xf3, 0xc2, 0x2e, 0xf5, 0x5d, 0x8a, 0x53, 0x53, 0x1f, 0xa3, 0x92, 0x62, 0x66, 0xc9,
+];
+
+/// The length and the digest of a file.
+type Sum = (usize, [u8; 32]);
+
+// The ancestor's bank, from quantum 34 on.
+const BANK_OF_ONE: Sum = (
+    230,
+    [
+        0xac, 0x2c, 0x9f, 0x53, 0x6e, 0xdf, 0xdf, 0xa3, 0xd5, 0xa6, 0x99, 0x01, 0x8f, 0xba, 0x5a,
+        0x63, 0xf8, 0xde, 0x82, 0x03, 0xec, 0x4a, 0x78, 0x89, 0x8e, 0x96, 0xd1, 0xdf, 0x18, 0xa8,
+        0x35, 0x49,
+    ],
+);
+
+// The bank of the three ancestors after 102 quanta, and one whose first group has form One.
+const BANK_OF_THREE: Sum = (
+    600,
+    [
+        0xf1, 0x74, 0xdc, 0xed, 0xca, 0xca, 0x67, 0xb2, 0xd2, 0xa1, 0x0f, 0x55, 0x58, 0x6e, 0xc2,
+        0x14, 0x1d, 0xb6, 0xad, 0x56, 0x5d, 0xb8, 0x91, 0x63, 0xbf, 0xa8, 0xa2, 0xc4, 0x35, 0x7e,
+        0x76, 0x77,
+    ],
+);
+
+const BANK_OF_BOTH_FORMS: Sum = (
+    568,
+    [
+        0xb4, 0x37, 0x82, 0x2b, 0x15, 0xb6, 0x0f, 0x94, 0x45, 0x7f, 0x8b, 0x34, 0x6e, 0xcf, 0xb8,
+        0x26, 0xf8, 0x44, 0x60, 0x68, 0xc9, 0xa8, 0xbe, 0x11, 0xcb, 0x41, 0x4a, 0xf1, 0x79, 0x17,
+        0xc7, 0x55,
+    ],
+);
+
+// A genotype of one instruction, saved at the start.
+const BANK_OF_ZERO: Sum = (
+    151,
+    [
+        0xdf, 0x02, 0x47, 0x7b, 0x61, 0x94, 0x23, 0x7f, 0x30, 0x7e, 0x5a, 0x98, 0x3c, 0x2f, 0xdc,
+        0x9f, 0x55, 0xa7, 0x61, 0x1b, 0x8f, 0xee, 0x4f, 0xbb, 0xb2, 0x85, 0xb6, 0xc9, 0xae, 0xc6,
+        0xb1, 0xc2,
+    ],
+);
+
+pub(crate) const ZERO_FILE: &str = "save_at = 1\n[[creature]]\nat = 0\ncode = \"zero\"\n";
+
+const ZERO_TEXT: &str = "saved 0001aaa 0\nquanta 1\nbirths 0\ndeaths 0\nliving 1\nfilled 1\n\
+    front 1 ip 25 ax 0 bx 0 cx 0 dx 0 flag 0 errors 0\ngenotypes 1\nkept 1\n0001aaa 1 1\n";
+
+// The run of the three ancestors, what it tells, and a letter for each of its calls: the bank is made, three groups are
+// appended, and the line of each is told.
+const RUN_OF_THREE: &str = "run --quanta 102";
+
+const TEXT_OF_THREE: &str = "saved 0080aaa 100\nsaved 0080aab 101\nsaved 0080aac 102\n\
+    quanta 102\nbirths 3\ndeaths 0\nliving 6\nfilled 720\n\
+    front 4 ip 80 ax 0 bx 0 cx 0 dx 0 flag 0 errors 0\n\
+    genotypes 3\nkept 3\n0080aaa 2 2\n0080aab 2 2\n0080aac 2 2\n";
+
+const CALLS_OF_THREE: &str = "SLWSWSWSWSWSTWSWSTWSWSTT";
+
+/// A soup file of the ancestor and two of its kind, whose last instructions differ.
+fn three_ancestors(alloc: Global) -> Result<String, OutOfMemory> {
+    let mut source = String::new(alloc);
+    for (at, last) in [(0u32, "if_cz"), (1000, "inc_a"), (2000, "dec_c")] {
+        let head = format!(in alloc; "[[creature]]\nat = {at}\ncode = \"\"\"")?;
+        source.push_str(&head)?;
+        for (place, name) in ANCESTOR.split_ascii_whitespace().enumerate() {
+            source.push_str(if place == 79 { last } else { name })?;
+            source.push_str(" ")?;
+        }
+        source.push_str("\"\"\"\n")?;
+    }
+    Ok(source)
+}
+
+fn sum_of(image: &[u8]) -> Sum {
+    (image.len(), Sha256::digest(image))
+}
+
+/// Makes a call over a file.
+pub(crate) fn call_over<R: Threads + Wait + Sync>(
+    rt: &R,
+    alloc: Global,
+    words: &str,
+    source: &str,
+    image: &[u8],
+) -> Result<Ended, OutOfMemory> {
+    let given = Given { image, ..PLAIN };
+    call_with(rt, alloc, words, source.as_bytes(), &given)
+}
+
+/// Whether the call over the file is done, with that text and that bank.
+fn is_done_with<R: Threads + Wait + Sync>(
+    rt: &R,
+    alloc: Global,
+    words: &str,
+    source: &str,
+    image: &[u8],
+    text: &str,
+    bank: &Sum,
+) -> Result<bool, OutOfMemory> {
+    let ended = call_over(rt, alloc, words, source, image)?;
+    Ok(ended.is_done(text) && sum_of(&ended.file(0)?) == *bank)
+}
+
+/// The same of the run of the three ancestors.
+fn is_done_of_three<R: Threads + Wait + Sync>(
+    rt: &R,
+    alloc: Global,
+    three: &str,
+    image: &[u8],
+) -> Result<bool, OutOfMemory> {
+    is_done_with(
+        rt,
+        alloc,
+        RUN_OF_THREE,
+        three,
+        image,
+        TEXT_OF_THREE,
+        &BANK_OF_THREE,
+    )
+}
+
+/// Whether the call over the file refuses it, tells nothing and only reads.
+fn is_refused_unwritten<R: Threads + Wait + Sync>(
+    rt: &R,
+    alloc: Global,
+    words: &str,
+    source: &str,
+    image: &[u8],
+    fault: BankFault,
+) -> Result<bool, OutOfMemory> {
+    let ended = call_over(rt, alloc, words, source, image)?;
+    Ok(
+        ended.status == Status::BankRefused(fault)
+            && ended.told.is_empty()
+            && ended.calls.as_str() == "SLR",
+    )
+}
+
+/// The first saved lines of the three ancestors.
+fn first_lines(count: u64) -> &'static str {
+    match count {
+        0 => "",
+        1 => "saved 0080aaa 100\n",
+        2 => "saved 0080aaa 100\nsaved 0080aab 101\n",
+        _ => "saved 0080aaa 100\nsaved 0080aab 101\nsaved 0080aac 102\n",
+    }
+}
+
+#[test]
+fn a_run_makes_its_bank(rt: HostRuntime) -> Result<(), Fail> {
+    let alloc = rt.alloc();
+    let three = three_ancestors(alloc)?;
+    let one_group = "SLWSWSWSWSWSTT";
+    let rows: [(&str, &str, &str, Sum, &str); 5] = [
+        (
+            "run --quanta 1",
+            ZERO_FILE,
+            ZERO_TEXT,
+            BANK_OF_ZERO,
+            one_group,
+        ),
+        ("grow --quanta 34", ANCESTOR, GROWN, BANK_OF_ONE, one_group),
+        (
+            RUN_OF_THREE,
+            &three,
+            TEXT_OF_THREE,
+            BANK_OF_THREE,
+            CALLS_OF_THREE,
+        ),
+        (
+            "run --quanta 102 --workers 2",
+            &three,
+            TEXT_OF_THREE,
+            BANK_OF_THREE,
+            CALLS_OF_THREE,
+        ),
+        (
+            "run --quanta 102 --workers 8",
+            &three,
+            TEXT_OF_THREE,
+            BANK_OF_THREE,
+            CALLS_OF_THREE,
+        ),
+    ];
+    for (words, source, text, bank, calls) in rows {
+        let ended = call(&rt, alloc, words, source)?;
+        assert!(rt; ended.is_done(text), "{words}");
+        assert!(rt; sum_of(&ended.file(0)?) == bank, "{words}");
+        assert_eq!(rt; ended.calls.as_str(), calls, "{words}");
+    }
+    Ok(())
+}
+
+/// Whether these saved lines were told first, and then the report.
+fn begins_with(alloc: Global, ended: &Ended, lines: &str) -> Result<bool, OutOfMemory> {
+    let front = format!(in alloc; "{lines}quanta ")?;
+    Ok(ended.told.as_slice().starts_with(front.as_bytes()))
+}
+
+#[test]
+fn a_bank_goes_on_with_a_longer_run(rt: HostRuntime) -> Result<(), Fail> {
+    let alloc = rt.alloc();
+    let three = three_ancestors(alloc)?;
+    let mut image = Vec::new(alloc);
+    let rows: [(&str, u64, usize, &str); 5] = [
+        ("run --quanta 99", 0, 45, "SLWSWSWST"),
+        ("run --quanta 100", 1, 230, "SLRWSWSTT"),
+        (RUN_OF_THREE, 3, 600, "SLRTWSWSTWSWSTT"),
+        (RUN_OF_THREE, 3, 600, "SLRTTTT"),
+        // Groups beyond the run's last are left alone.
+        ("run --quanta 101", 2, 600, "SLRTTT"),
+    ];
+    for (words, lines, len, calls) in rows {
+        let ended = call_over(&rt, alloc, words, &three, &image)?;
+        assert_eq!(rt; ended.status, Status::Done, "{words}");
+        assert!(rt; begins_with(alloc, &ended, first_lines(lines))?, "{words}");
+        assert_eq!(rt; ended.calls.as_str(), calls, "{words}");
+        image = ended.file(0)?;
+        assert_eq!(rt; image.len(), len, "{words}");
+    }
+    assert!(rt; sum_of(&image) == BANK_OF_THREE);
+    Ok(())
+}
+
+#[test]
+fn a_shorter_run_leaves_the_bank_alone(rt: HostRuntime) -> Result<(), Fail> {
+    let alloc = rt.alloc();
+    let ended = call(&rt, alloc, "grow --quanta 100", ANCESTOR)?;
+    assert_eq!(rt; ended.status, Status::Done);
+    let bank = ended.file(0)?;
+    assert!(rt; sum_of(&bank) == BANK_OF_ONE);
+    let ended = call_over(&rt, alloc, "grow --quanta 34", ANCESTOR, &bank)?;
+    assert!(rt; ended.is_done(GROWN));
+    assert_eq!(rt; ended.calls.as_str(), "SLRTT");
+    Ok(())
+}
+
+/// Whether a run over what each crash leaves is done, with the bank of the three.
+fn goes_on_from_each_crash<R: Threads + Wait + Sync>(
+    rt: &R,
+    alloc: Global,
+    three: &str,
+    ended: &Ended,
+) -> Result<bool, OutOfMemory> {
+    for pick in 0..4u32 {
+        if !is_done_of_three(rt, alloc, three, &ended.file(pick)?)? {
+            return Ok(false);
+        }
+    }
+    Ok(true)
+}
+
+/// Whether each crash leaves no bytes.
+fn leaves_nothing(ended: &Ended) -> Result<bool, OutOfMemory> {
+    for pick in 0..4u32 {
+        if !ended.file(pick)?.is_empty() {
+            return Ok(false);
+        }
+    }
+    Ok(true)
+}
+
+#[test]
+fn a_disk_call_that_fails_is_the_last(rt: HostRuntime) -> Result<(), Fail> {
+    let alloc = rt.alloc();
+    let three = three_ancestors(alloc)?;
+    for number in 1..=20u64 {
+        let given = Given {
+            disk: &[number],
+            ..PLAIN
+        };
+        let ended = call_with(&rt, alloc, RUN_OF_THREE, three.as_bytes(), &given)?;
+        assert_eq!(rt; ended.status, Status::DiskFault, "call {number}");
+        // Each group has four disk calls after the eight of the attach.
+        let lines = number.saturating_sub(9) / 4;
+        let told = ended.told.as_slice();
+        assert_eq!(rt; told, first_lines(lines).as_bytes(), "call {number}");
+        let calls = ended.calls.as_str();
+        assert_eq!(rt; calls.len() as u64, number + lines, "call {number}");
+        assert!(rt; CALLS_OF_THREE.starts_with(calls), "call {number}");
+        // The third call is the first that writes.
+        assert!(rt; number > 2 || leaves_nothing(&ended)?, "call {number}");
+        assert!(rt;
+            goes_on_from_each_crash(&rt, alloc, &three, &ended)?,
+            "call {number}"
+        );
+    }
+    Ok(())
+}
+
+#[test]
+fn a_tell_that_fails_is_the_last_call(rt: HostRuntime) -> Result<(), Fail> {
+    let alloc = rt.alloc();
+    let three = three_ancestors(alloc)?;
+    let rows: [(u64, &str); 4] = [
+        (1, "SLWSWSWSWSWST"),
+        (2, "SLWSWSWSWSWSTWSWST"),
+        (3, "SLWSWSWSWSWSTWSWSTWSWST"),
+        (4, CALLS_OF_THREE),
+    ];
+    for (number, calls) in rows {
+        let given = Given {
+            tells: &[number],
+            ..PLAIN
+        };
+        let ended = call_with(&rt, alloc, RUN_OF_THREE, three.as_bytes(), &given)?;
+        assert_eq!(rt; ended.status, Status::TellFault, "tell {number}");
+        let lines = first_lines(number.saturating_sub(1));
+        assert_eq!(rt; ended.told.as_slice(), lines.as_bytes(), "tell {number}");
+        assert_eq!(rt; ended.calls.as_str(), calls, "tell {number}");
+    }
+    Ok(())
+}
+
+/// Whether each crash leaves a bank with at least so many groups, and at most three.
+fn keeps_groups(alloc: Global, ended: &Ended, least: u64) -> Result<bool, Fail> {
+    for pick in 0..4u32 {
+        let image = ended.file(pick)?;
+        let groups = groups_of(alloc, &image, Some(&SETUP_OF_THREE))?.items.len() as u64;
+        if groups < least || groups > 3 {
+            return Ok(false);
+        }
+    }
+    Ok(true)
+}
+
+#[test]
+fn a_stop_at_each_call_leaves_a_true_bank(rt: HostRuntime) -> Result<(), Fail> {
+    let alloc = rt.alloc();
+    let three = three_ancestors(alloc)?;
+    for stop in 1..=24u64 {
+        let given = Given {
+            stop: Some(stop),
+            ..PLAIN
+        };
+        let ended = call_with(&rt, alloc, RUN_OF_THREE, three.as_bytes(), &given)?;
+        let want = if matches!(stop, 13 | 18 | 23 | 24) {
+            Status::TellFault
+        } else {
+            Status::DiskFault
+        };
+        assert_eq!(rt; ended.status, want, "stop {stop}");
+        // Each group has four disk calls and a tell after the eight of the attach.
+        let lines = stop.saturating_sub(9) / 5;
+        let told = ended.told.as_slice();
+        assert_eq!(rt; told, first_lines(lines).as_bytes(), "stop {stop}");
+        assert!(rt; keeps_groups(alloc, &ended, lines)?, "stop {stop}");
+        assert!(rt;
+            goes_on_from_each_crash(&rt, alloc, &three, &ended)?,
+            "stop {stop}"
+        );
+    }
+    Ok(())
+}
+
+/// The bank of the three ancestors.
+fn bank_of_three<R: Threads + Wait + Sync>(
+    rt: &R,
+    alloc: Global,
+    three: &str,
+) -> Result<Vec<u8>, Fail> {
+    let ended = call(rt, alloc, RUN_OF_THREE, three)?;
+    let bank = ended.file(0)?;
+    if ended.status != Status::Done || sum_of(&bank) != BANK_OF_THREE {
+        return Err(Fail::from("the run made another bank"));
+    }
+    Ok(bank)
+}
+
+/// Whether the run of the three goes on from that image, or refuses it for a group that is damaged.
+fn goes_on_or_refuses<R: Threads + Wait + Sync>(
+    rt: &R,
+    alloc: Global,
+    three: &str,
+    image: &[u8],
+    damaged: Option<u64>,
+) -> Result<bool, OutOfMemory> {
+    match damaged {
+        Some(group) => {
+            let fault = BankFault::Damaged { group };
+            is_refused_unwritten(rt, alloc, RUN_OF_THREE, three, image, fault)
+        }
+        None => is_done_of_three(rt, alloc, three, image),
+    }
+}
+
+#[test]
+fn a_bank_is_cut_at_each_length(rt: HostRuntime) -> Result<(), Fail> {
+    let alloc = rt.alloc();
+    let three = three_ancestors(alloc)?;
+    let bank = bank_of_three(&rt, alloc, &three)?;
+    for len in 0..=bank.len() {
+        let damaged = match len {
+            45..=229 => Some(0),
+            230..=414 => Some(1),
+            415..=599 => Some(2),
+            _ => None,
+        };
+        let is_so = goes_on_or_refuses(&rt, alloc, &three, &bank[..len], damaged)?;
+        assert!(rt; is_so, "{len} bytes");
+    }
+    Ok(())
+}
+
+#[test]
+fn another_file_is_refused(rt: HostRuntime) -> Result<(), Fail> {
+    let alloc = rt.alloc();
+    let three = three_ancestors(alloc)?;
+    let mut found = SETUP_OF_THREE;
+    found[0] = 9;
+    let wanted = SETUP_OF_THREE;
+    // The title, the digest, and a code of group 1.
+    let rows: [(usize, BankFault, &str); 3] = [
+        (1, BankFault::NotABank, " is not a genebank"),
+        (
+            12,
+            BankFault::Foreign { found, wanted },
+            " belongs to another setup",
+        ),
+        (302, BankFault::Damaged { group: 1 }, ": group 1 is damaged"),
+    ];
+    for (place, fault, reason) in rows {
+        let mut image = bank_of_three(&rt, alloc, &three)?;
+        assert!(rt; place < image.len());
+        image[place] = 9;
+        let is_refused = is_refused_unwritten(&rt, alloc, RUN_OF_THREE, &three, &image, fault)?;
+        assert!(rt; is_refused, "byte {place}");
+        let status = Status::BankRefused(fault);
+        assert_eq!(rt; status.number(), 3);
+        let line = format!(in alloc; "tierra: tierra.bank{reason}\n")?;
+        assert_eq!(rt; line_of(alloc, &status)?.as_slice(), line.as_bytes());
+    }
+    Ok(())
+}
+
+/// A group with one genotype, the ancestor or one with another last instruction.
+#[derive(Clone, Copy, Drop)]
+pub(crate) struct Kept {
+    pub(crate) form_two: bool,
+    pub(crate) quantum: u64,
+    pub(crate) ran: u64,
+    pub(crate) last: u8,
+}
+
+fn payload_of(alloc: Global, group: &Kept) -> Result<Vec<u8>, Fail> {
+    let mut payload = group.quantum.to_be_bytes().to_vec(alloc)?;
+    payload.extend_from_slice(&[0, 0, 0, 1, 0, 0, 0, 80])?;
+    payload.extend_from_slice(&[0; 20])?;
+    if group.form_two {
+        payload.extend_from_slice(&group.ran.to_be_bytes())?;
+        payload.extend_from_slice(&[0, 0, 0, 0, 0, 0, 0, 80])?;
+        payload.extend_from_slice(&[0; 16])?;
+    }
+    for (place, digits) in ANCESTOR_HEX.split_ascii_whitespace().enumerate() {
+        let code = u8::from_str_radix(digits, 16)?;
+        payload.push(if place == 79 { group.last } else { code })?;
+    }
+    Ok(payload)
+}
+
+/// The bank of a setup with one group.
+pub(crate) fn bank_with(alloc: Global, setup: &[u8; 32], group: &Kept) -> Result<Vec<u8>, Fail> {
+    let mut bank = b"Tierra bank1".to_vec(alloc)?;
+    bank.extend_from_slice(setup)?;
+    bank.push(1)?;
+    let payload = payload_of(alloc, group)?;
+    let field: u32 = if group.form_two { 0x8000_0094 } else { 0x74 };
+    bank.extend_from_slice(&field.to_be_bytes())?;
+    bank.extend_from_slice(&payload)?;
+    bank.extend_from_slice(&Sha256::digest(payload.as_slice()))?;
+    bank.push(0)?;
+    Ok(bank)
+}
+
+#[test]
+fn a_bank_of_form_one_goes_on(rt: HostRuntime) -> Result<(), Fail> {
+    let alloc = rt.alloc();
+    let three = three_ancestors(alloc)?;
+    let group = Kept {
+        form_two: false,
+        quantum: 100,
+        ran: 0,
+        last: 5,
+    };
+    let image = bank_with(alloc, &SETUP_OF_THREE, &group)?;
+    assert_eq!(rt; image.len(), 198);
+    let (words, text) = (RUN_OF_THREE, TEXT_OF_THREE);
+    let is_done = is_done_with(&rt, alloc, words, &three, &image, text, &BANK_OF_BOTH_FORMS)?;
+    assert!(rt; is_done);
+    Ok(())
+}
+
+#[test]
+fn a_group_that_does_not_fit_differs(rt: HostRuntime) -> Result<(), Fail> {
+    let alloc = rt.alloc();
+    let rows: [(bool, u64, u64, u8, bool); 7] = [
+        (true, 34, 839, 5, true),
+        (false, 34, 0, 5, true),
+        (true, 33, 839, 5, false),
+        (true, 34, 838, 5, false),
+        (true, 34, 839, 8, false),
+        (false, 33, 0, 5, false),
+        (false, 34, 0, 8, false),
+    ];
+    for (form_two, quantum, ran, last, fits) in rows {
+        let group = Kept {
+            form_two,
+            quantum,
+            ran,
+            last,
+        };
+        let image = bank_with(alloc, &SETUP_OF_ONE, &group)?;
+        let words = "grow --quanta 34";
+        let is_so = if fits {
+            let same = sum_of(&image);
+            is_done_with(&rt, alloc, words, ANCESTOR, &image, GROWN, &same)?
+        } else {
+            let fault = BankFault::Differs { group: 0 };
+            is_refused_unwritten(&rt, alloc, words, ANCESTOR, &image, fault)?
+        };
+        assert!(rt;
+            is_so,
+            "form two {form_two}, quantum {quantum}, ran {ran}, last {last}"
+        );
+    }
+    let status = Status::BankRefused(BankFault::Differs { group: 0 });
+    let line = b"tierra: tierra.bank: group 0 differs from this run\n";
+    assert_eq!(rt; line_of(alloc, &status)?.as_slice(), line.as_slice());
+    Ok(())
+}
+
+/// The bytes from one place to another, which are there.
+pub(crate) fn part_of(
+    alloc: Global,
+    bytes: &[u8],
+    from: usize,
+    to: usize,
+) -> Result<Vec<u8>, Fail> {
+    if from <= to && to <= bytes.len() {
+        Ok(bytes[from..to].to_vec(alloc)?)
+    } else {
+        Err(Fail::from("the file is too short"))
+    }
+}
+
+#[test]
+fn the_lines_before_a_group_that_differs_are_told(rt: HostRuntime) -> Result<(), Fail> {
+    let alloc = rt.alloc();
+    let three = three_ancestors(alloc)?;
+    let bank = bank_of_three(&rt, alloc, &three)?;
+    // The first group stands in the place of the second one too.
+    let mut image = part_of(alloc, &bank, 0, 229)?;
+    image.extend_from_slice(&part_of(alloc, &bank, 44, 229)?)?;
+    image.push(0)?;
+    let ended = call_over(&rt, alloc, RUN_OF_THREE, &three, &image)?;
+    assert_eq!(rt;
+        ended.status,
+        Status::BankRefused(BankFault::Differs { group: 1 })
+    );
+    assert_eq!(rt; ended.told.as_slice(), first_lines(1).as_bytes());
+    assert_eq!(rt; ended.calls.as_str(), "SLRT");
+    Ok(())
+}

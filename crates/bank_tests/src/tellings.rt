@@ -1,0 +1,132 @@
+//! What is told of a genebank, and what leaves the disk alone.
+
+use crate::runs::{Kept, ZERO_FILE, bank_with, call_over, part_of};
+use bank_recover::BankFault;
+use soup_top::Status;
+use std::alloc::Global;
+use std::test::Fail;
+use test_calls::{Given, PLAIN, call, call_with};
+use test_soups::{ANCESTOR, ANCESTOR_HEX, ancestor_file};
+use tierra_model::OutOfMemory;
+
+/// The text of a bank with the ancestor alone, after those lines.
+fn bank_text_of(alloc: Global, lines: &str) -> Result<String, OutOfMemory> {
+    let mut text = String::from_str(alloc, lines)?;
+    text.push_str("code ")?;
+    for digits in ANCESTOR_HEX.split_ascii_whitespace() {
+        text.push_str(digits)?;
+    }
+    text.push_str("\n")?;
+    Ok(text)
+}
+
+#[test]
+fn a_bank_is_told(rt: HostRuntime) -> Result<(), Fail> {
+    let alloc = rt.alloc();
+    let late = ancestor_file(alloc, "save_at = 3\n")?;
+    let rows: [(&str, &str, &str); 2] = [
+        (
+            "grow --quanta 34",
+            ANCESTOR,
+            "saved 0080aaa 34\nparent none\nfirst 839 80\nsecond none\n",
+        ),
+        (
+            "run --quanta 100",
+            &late,
+            "saved 0080aaa 100\nparent none\nfirst 839 80\nsecond 813 80\n",
+        ),
+    ];
+    for (words, source, lines) in rows {
+        let ended = call(&rt, alloc, words, source)?;
+        assert_eq!(rt; ended.status, Status::Done, "{words}");
+        let ended = call_over(&rt, alloc, "bank", "", &ended.file(0)?)?;
+        assert!(rt; ended.is_done(&bank_text_of(alloc, lines)?), "{words}");
+        assert_eq!(rt; ended.calls.as_str(), "LRT", "{words}");
+    }
+    Ok(())
+}
+
+#[test]
+fn a_bank_is_told_without_a_source_or_a_setup(rt: HostRuntime) -> Result<(), Fail> {
+    let alloc = rt.alloc();
+    let group = Kept {
+        form_two: false,
+        quantum: 34,
+        ran: 0,
+        last: 5,
+    };
+    let bank = bank_with(alloc, &[7; 32], &group)?;
+    assert_eq!(rt; bank.len(), 198);
+    let ended = call_over(&rt, alloc, "bank", "", &bank)?;
+    let text = bank_text_of(alloc, "saved 0080aaa 34\nparent none\n")?;
+    assert!(rt; ended.is_done(&text));
+    let cut = part_of(alloc, &bank, 0, 100)?;
+    let ended = call_over(&rt, alloc, "bank", "", &cut)?;
+    assert_eq!(rt;
+        ended.status,
+        Status::BankRefused(BankFault::Damaged { group: 0 })
+    );
+    assert_eq!(rt; ended.calls.as_str(), "LR");
+    Ok(())
+}
+
+#[test]
+fn an_empty_bank_is_told_without_a_read(rt: HostRuntime) -> Result<(), Fail> {
+    let given = Given {
+        cut: 1,
+        reads: &[1],
+        ..PLAIN
+    };
+    let ended = call_with(&rt, rt.alloc(), "bank", b"", &given)?;
+    assert!(rt; ended.is_done(""));
+    Ok(())
+}
+
+#[test]
+fn a_bank_is_probed(rt: HostRuntime) -> Result<(), Fail> {
+    let alloc = rt.alloc();
+    let bank = call(&rt, alloc, "grow --quanta 34", ANCESTOR)?.file(0)?;
+    let rows: [(&str, &str); 3] = [
+        (
+            "probe --quanta 100 --workers 3",
+            "0080aaa first 839 80 second 813 80\n",
+        ),
+        ("probe --quanta 99", "0080aaa first 839 80 second none\n"),
+        ("probe --quanta 33", "0080aaa first none second none\n"),
+    ];
+    for (words, text) in rows {
+        let ended = call_over(&rt, alloc, words, "", &bank)?;
+        assert!(rt; ended.is_done(text), "{words}");
+        assert_eq!(rt; ended.calls.as_str(), "LRT", "{words}");
+    }
+    Ok(())
+}
+
+#[test]
+fn nothing_is_told_of_a_bank_without_groups(rt: HostRuntime) -> Result<(), Fail> {
+    for words in ["bank", "probe"] {
+        let ended = call(&rt, rt.alloc(), words, "")?;
+        assert_eq!(rt; ended.status, Status::Done, "{words}");
+        assert_eq!(rt; ended.calls.as_str(), "L", "{words}");
+    }
+    Ok(())
+}
+
+#[test]
+fn other_texts_are_told_without_the_disk(rt: HostRuntime) -> Result<(), Fail> {
+    let rows: [(&str, &str); 7] = [
+        ("asm", "zero"),
+        ("dis", "04"),
+        ("dump --quanta 1", ZERO_FILE),
+        ("drill --quanta 1 --number 7", ZERO_FILE),
+        ("curve --quanta 1", ZERO_FILE),
+        ("watch --quanta 1", ZERO_FILE),
+        ("isles --quanta 1", ZERO_FILE),
+    ];
+    for (words, source) in rows {
+        let ended = call(&rt, rt.alloc(), words, source)?;
+        assert_eq!(rt; ended.status, Status::Done, "{words}");
+        assert_eq!(rt; ended.calls.as_str(), "T", "{words}");
+    }
+    Ok(())
+}
