@@ -6,5 +6,6 @@ pub mod Committing
 pub mod Keeping
 pub mod Claiming
 pub mod SettingsLemmas
+mod YardBirths
 mod YardLemmas
 pub mod ShownLemmas

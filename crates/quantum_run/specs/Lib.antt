@@ -1,5 +1,6 @@
 pub mod Marks
 pub mod Seen
+pub mod Pages
 pub mod SeenLaws
 pub mod Shelves
 pub mod Jobs

@@ -1,14 +1,16 @@
--- All cells of a row are ready.
+-- All cells of a row are ready that is not cut.
 use Rattle.std.proofs.Common.{◌≡◌, ℕ, ◌+◌, ◌/◌, ◌<◌, List, ap, arith, false, get_or, length, replicate, set, true}
 use Rattle.std.proofs.lemmas.List.{get_or-replicate, length-set}
-use Rattle.soup_cells.specs.Cells.{is_ready}
-use Rattle.soup_cells.specs.Forms.{row_cells}
+use Rattle.soup_cells.specs.Cells.{Cells, is_ready}
 
-pub row-ready : (row : List ℕ) (at : ℕ) → at < length row → is_ready (row_cells row) at ≡ true
+abbrev uncut : List ℕ → Cells
+uncut row = record { cells = row; own = replicate ((length row + 4095) / 4096) true }
+
+pub row-ready : (row : List ℕ) (at : ℕ) → at < length row → is_ready (uncut row) at ≡ true
 unfolding is_ready
 row-ready row at l = get_or-replicate ((length row + 4095) / 4096) (at / 4096) true false (omega arith)
 
-pub row-set : (row : List ℕ) (at v p : ℕ) → is_ready (row_cells (set row at v)) p ≡ is_ready (row_cells row) p
+pub row-set : (row : List ℕ) (at v p : ℕ) → is_ready (uncut (set row at v)) p ≡ is_ready (uncut row) p
 unfolding is_ready
 row-set row at v p =
     ap (λ (n : ℕ). get_or (replicate ((n + 4095) / 4096) true) (p / 4096) false) (length-set row at v)

@@ -14,6 +14,8 @@ use tierra_model::OutOfMemory;
 pub(crate) struct Pages {
     size: u32,
     pages: Vec<Page>,
+    // the pages that are not shared. One that finds no room here is copied in time, and no more than that.
+    unshared: Vec<usize>,
 }
 
 impl Model for Pages {
@@ -36,6 +38,7 @@ impl Pages {
         Pages {
             size: 0,
             pages: Vec::new(alloc),
+            unshared: Vec::new(alloc),
         }
     }
 
@@ -51,14 +54,17 @@ impl Pages {
     {
         let count = cells.len().div_ceil(PAGE);
         let mut pages = Vec::with_capacity(alloc, count)?;
+        let mut unshared = Vec::with_capacity(alloc, count)?;
         for number in 0..count {
             let start = PAGE * number;
             let end = cells.len().min(start + PAGE);
             pages.push(Page::Own(Vec::from_slice(alloc, &cells[start..end])?))?;
+            unshared.push(number)?;
         }
         Ok(Pages {
             size: cells.len() as u32,
             pages,
+            unshared,
         })
     }
 
@@ -79,6 +85,7 @@ impl Pages {
         ensures ok { OnOk result (is_ready self.new at ≡ true) }
         ensures kept { (p : ℕ) → is_ready self.old p ≡ true → is_ready self.new p ≡ true }
     {
+        note_shared(&mut self.unshared, &self.pages, at as usize / PAGE);
         self.pages[at as usize / PAGE].make_own()
     }
 
@@ -113,7 +120,9 @@ impl Pages {
     pub(crate) fn share(&mut self) -> Result<(), OutOfMemory>
         ensures { self.new.cells ≡ self.old.cells }
     {
-        share_all(&mut self.pages)
+        share_some(&mut self.pages, &self.unshared)?;
+        self.unshared.clear();
+        Ok(())
     }
 
     /// The same cells once more. The pages that are shared are not copied.
@@ -121,19 +130,30 @@ impl Pages {
         ensures { IfOk result (λ p. p.cells ≡ self.now.cells) }
     {
         let pages = copies(&self.pages)?;
+        let unshared = self.unshared.clone()?;
         Ok(Pages {
             size: self.size,
             pages,
+            unshared,
         })
     }
 }
 
-// Makes all pages shared.
-fn share_all(pages: &mut Vec<Page>) -> Result<(), OutOfMemory>
+// Notes the number of a page that is shared and will not be.
+fn note_shared(unshared: &mut Vec<usize>, pages: &[Page], number: usize) {
+    if let Some(Page::Shared(_)) = pages.get(number) {
+        let _noted: Result<_, _> = unshared.push(number);
+    }
+}
+
+// Makes the pages of these numbers shared.
+fn share_some(pages: &mut Vec<Page>, numbers: &[usize]) -> Result<(), OutOfMemory>
     ensures { map page_cells pages.new.items ≡ map page_cells pages.old.items }
 {
-    for i in 0..pages.len() {
-        share_at(pages, i)?;
+    for number in numbers {
+        if *number < pages.len() {
+            share_at(pages, *number)?;
+        }
     }
     Ok(())
 }

@@ -1,9 +1,9 @@
 //! The soup.
 
-ghost use Rattle.std.specs.Prelude.{◌≡◌, ◌<◌, ℕ, IfErr, IfOk, OnOk, length, replicate, slice_index, slice_set, false, true};
+ghost use Rattle.std.specs.Prelude.{◌≡◌, ◌<◌, ℕ, IfErr, List, IfOk, OnOk, Some, length, replicate, slice_index, slice_set, false, true};
 ghost use Rattle.std.specs.Arc.{arc_value};
 ghost use Rattle.soup_cells.specs.Cells.{is_ready};
-ghost use Rattle.soup_cells.specs.Forms.{form_cells, has_own, is_row};
+ghost use Rattle.soup_cells.specs.Paging.{AreIn, cells_in, has_own, is_cut, soup_of};
 
 use crate::pages::Pages;
 use crate::row::Row;
@@ -17,25 +17,28 @@ use tierra_model::OutOfMemory;
 /// The cells of a soup. A cell is made ready before it is set; a version that is taken leaves no cell ready.
 #[derive(Drop)]
 pub struct Soup {
-    form: Form,
+    row: Row,
+    paging: Paging,
 }
 
-/// Cells in one row are found at once. The first version cuts the row into pages, which it shares with the soup, and the
-/// soup takes them back to set a cell.
+/// The same cells in pages, which versions share. The first version cuts them, and from then on each cell is set in the
+/// row and in its page. The soup takes the pages back to set a cell.
 #[derive(Drop)]
-pub(crate) enum Form {
-    Row(Row),
+pub(crate) enum Paging {
+    Uncut,
     Own(Pages),
     Shared(Arc<Pages>),
 }
 
 impl Model for Soup {
     ghost use Rattle.soup_cells.specs.Cells.{Cells};
-    ghost use Rattle.soup_cells.specs.Forms.{form_cells};
+    ghost use Rattle.soup_cells.specs.Paging.{AreIn, soup_of};
 
     ghost Value = { Cells };
 
-    ghost view = { λ s. form_cells s.form };
+    ghost view = { λ s. soup_of s.row s.paging };
+
+    ghost invariant = { λ s. AreIn s.row s.paging };
 }
 
 impl Soup {
@@ -44,7 +47,8 @@ impl Soup {
         ensures { IfOk result (λ s. s.cells ≡ replicate size 0) }
     {
         Ok(Soup {
-            form: Form::Row(Row::new(alloc, size)?),
+            row: Row::new(alloc, size)?,
+            paging: Paging::Uncut,
         })
     }
 
@@ -55,10 +59,7 @@ impl Soup {
         ensures value { result ≡ slice_index self.now.cells at }
         ensures code { result < 32 }
     {
-        match &self.form {
-            Form::Row(row) => row.get(at),
-            form => get_from_pages(form, at),
-        }
+        self.row.get(at)
     }
 
     /// Makes a cell ready, so that it can be set without memory.
@@ -68,11 +69,11 @@ impl Soup {
         ensures ok { OnOk result (is_ready self.new at ≡ true) }
         ensures kept { (p : ℕ) → is_ready self.old p ≡ true → is_ready self.new p ≡ true }
     {
-        make_own(&mut self.form)?;
-        match &mut self.form {
-            Form::Row(_) => Ok(()),
-            Form::Own(pages) => pages.ready(at),
-            Form::Shared(_) => unreachable!(),
+        make_own(&mut self.paging)?;
+        match &mut self.paging {
+            Paging::Uncut => Ok(()),
+            Paging::Own(pages) => pages.ready(at),
+            Paging::Shared(_) => unreachable!(),
         }
     }
 
@@ -86,10 +87,11 @@ impl Soup {
         ensures cells { self.new.cells ≡ slice_set self.old.cells at value }
         ensures ready { (p : ℕ) → is_ready self.new p ≡ is_ready self.old p }
     {
-        match &mut self.form {
-            Form::Row(row) => row.set(at, value),
-            Form::Own(pages) => pages.set(at, value),
-            Form::Shared(_) => unreachable!(),
+        self.row.set(at, value);
+        match &mut self.paging {
+            Paging::Uncut => {}
+            Paging::Own(pages) => pages.set(at, value),
+            Paging::Shared(_) => unreachable!(),
         }
     }
 
@@ -99,58 +101,44 @@ impl Soup {
         ensures cells { self.new.cells ≡ self.old.cells }
         ensures ok { IfOk result (λ v. v ≡ self.old.cells) }
     {
-        let pages = share(&mut self.form)?;
+        let pages = share(&self.row, &mut self.paging)?;
         Ok(Version::of(pages))
     }
 }
 
-// The code in a cell of pages. It stands apart so that a look into a row is inlined.
-#[inline(never)]
-fn get_from_pages(form: &Form, at: u32) -> u8
-    requires pages { is_row form.now ≡ false }
-    requires within { at < length (form_cells form.now).cells }
-    ensures value { result ≡ slice_index (form_cells form.now).cells at }
-    ensures code { result < 32 }
+// Makes the pages of the row shared, and gives one more owner of them.
+fn share(row: &Row, paging: &mut Paging) -> Result<Arc<Pages>, OutOfMemory>
+    requires { AreIn row.now paging.old }
+    ensures cells { AreIn row.now paging.new }
+    ensures ok { IfOk result (λ a. (arc_value a).cells ≡ row.now) }
 {
-    match form {
-        Form::Row(_) => unreachable!(),
-        Form::Own(pages) => pages.get(at),
-        Form::Shared(pages) => pages.get(at),
+    if let Paging::Uncut = paging {
+        *paging = Paging::Own(row.cut()?);
     }
+    share_pages(paging)
 }
 
-// Makes the cells shared pages, and gives one more owner of them.
-fn share(form: &mut Form) -> Result<Arc<Pages>, OutOfMemory>
-    ensures cells { (form_cells form.new).cells ≡ (form_cells form.old).cells }
-    ensures ok { IfOk result (λ a. (arc_value a).cells ≡ (form_cells form.old).cells) }
+// The same of pages that are cut. No cell is copied.
+fn share_pages(paging: &mut Paging) -> Result<Arc<Pages>, OutOfMemory>
+    requires { is_cut paging.old ≡ true }
+    ensures cells { cells_in paging.new ≡ cells_in paging.old }
+    ensures ok { IfOk result (λ a. Some (arc_value a).cells ≡ cells_in paging.old) }
 {
-    if let Form::Row(row) = form {
-        *form = Form::Own(row.cut()?);
-    }
-    share_pages(form)
-}
-
-// The same of cells in pages. No cell is copied.
-fn share_pages(form: &mut Form) -> Result<Arc<Pages>, OutOfMemory>
-    requires { is_row form.old ≡ false }
-    ensures cells { (form_cells form.new).cells ≡ (form_cells form.old).cells }
-    ensures ok { IfOk result (λ a. (arc_value a).cells ≡ (form_cells form.old).cells) }
-{
-    match form {
-        Form::Row(_) => unreachable!(),
-        Form::Shared(pages) => Arc::try_clone(pages),
-        Form::Own(pages) => {
+    match paging {
+        Paging::Uncut => unreachable!(),
+        Paging::Shared(pages) => Arc::try_clone(pages),
+        Paging::Own(pages) => {
             pages.share()?;
             let alloc = pages.allocator();
             let pages = mem::replace(pages, Pages::none(alloc));
             match Arc::new(alloc, pages) {
                 Ok(pages) => {
                     let other = Arc::try_clone(&pages);
-                    *form = Form::Shared(pages);
+                    *paging = Paging::Shared(pages);
                     other
                 }
                 Err(refused) => {
-                    *form = Form::Own(refused.value);
+                    *paging = Paging::Own(refused.value);
                     Err(AllocError)
                 }
             }
@@ -159,19 +147,20 @@ fn share_pages(form: &mut Form) -> Result<Arc<Pages>, OutOfMemory>
 }
 
 #[tactic(auto, unfolding(crate::specs::Cells::is_ready))]
-// Makes the cells the soup's own. The list of pages is copied only where a version has it still, and no cell is copied.
-fn make_own(form: &mut Form) -> Result<(), OutOfMemory>
-    ensures cells { (form_cells form.new).cells ≡ (form_cells form.old).cells }
-    ensures ok { OnOk result (has_own form.new ≡ true) }
-    ensures kept { (p : ℕ) → is_ready (form_cells form.old) p ≡ true → is_ready (form_cells form.new) p ≡ true }
+// Takes the pages back. The list of pages is copied only where a version has it still, and no cell is copied.
+fn make_own(paging: &mut Paging) -> Result<(), OutOfMemory>
+    ensures cells { cells_in paging.new ≡ cells_in paging.old }
+    ensures ok { OnOk result (has_own paging.new ≡ true) }
+    ensures kept { (row : List ℕ) (p : ℕ) → is_ready (soup_of row paging.old) p ≡ true
+        → is_ready (soup_of row paging.new) p ≡ true }
 {
-    if let Form::Shared(pages) = form {
-        let none = Form::Own(Pages::none(pages.allocator()));
-        if let Form::Shared(pages) = mem::replace(form, none) {
+    if let Paging::Shared(pages) = paging {
+        let none = Paging::Own(Pages::none(pages.allocator()));
+        if let Paging::Shared(pages) = mem::replace(paging, none) {
             match taken_back(pages) {
-                Ok(pages) => *form = Form::Own(pages),
+                Ok(pages) => *paging = Paging::Own(pages),
                 Err(pages) => {
-                    *form = Form::Shared(pages);
+                    *paging = Paging::Shared(pages);
                     return Err(AllocError);
                 }
             }

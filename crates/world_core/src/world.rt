@@ -86,6 +86,13 @@ impl World {
         self.running.deaths()
     }
 
+    /// The number of who is born next.
+    pub fn next_birth(&self) -> u64
+        ensures { result ≡ self.now.world.next_birth }
+    {
+        self.running.next_birth()
+    }
+
     /// The record of a creature, if it lives.
     pub fn creature(&self, id: u64) -> Option<&Creature>
         ensures { option_copied result ≡ find (λ c. c.id == id) self.now.world.living }

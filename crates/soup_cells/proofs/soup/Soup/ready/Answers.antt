@@ -1,18 +1,19 @@
-use Rattle.std.proofs.Common.{◌∙◌, ◌<◌, List, ap, length, subst, sym, ℕ}
+use Rattle.std.proofs.Common.{◌∙◌, ◌<◌, ap, length, subst, sym}
 use Rattle.soup_cells.specs.Cells.{Cells, is_ready}
-use Rattle.soup_cells.specs.Forms.{form_cells}
-use Rattle.soup_cells.specs.declared.soup.Form.{Form}
+use Rattle.soup_cells.specs.Paging.{soup_of}
+use Rattle.soup_cells.specs.declared.soup.Paging.{Paging}
 use Rattle.soup_cells.proofs.Rows.{row-ready}
 use Rattle.soup_cells.proofs.soup.Soup.ready.Goals as goal
-use Rattle.soup_cells.proofs.soup.Soup.ready.Goals.{in-Row, in-Own}
+use Rattle.soup_cells.proofs.soup.Soup.ready.Goals.{in-Own, in-Uncut}
 
 pub returns-clause-ok : goal.returns-clause-ok
+unfolding is_ready
 returns-clause-ok c =
-    let within : c.args.at < length (form_cells c.make_own.new.form).cells =
-    subst (λ (cells : List ℕ). c.args.at < length cells) (sym (c.make_own.ensures.cells ∙ ap (λ (s : Cells). s.cells) c.self.view_is)) c.requires in
+    let row = c.self.inside.row in
+    let within : c.args.at < length row = subst (λ (s : Cells). c.args.at < length s.cells) (sym c.self.view_is) c.requires in
     elim c.match-self.branch [
-      | in-Row w ↦ rw w.result-is (rw w.self-inside-is
-          (ap (λ (f : Form). is_ready (form_cells f) c.args.at) w.in-Row.is
-          ∙ row-ready w.in-Row.field-0 c.args.at (subst (λ (f : Form). c.args.at < length (form_cells f).cells) w.in-Row.is within)))
+      | in-Uncut w ↦ rw w.result-is (rw w.self-inside-is
+          (ap (λ (p : Paging). is_ready (soup_of row p) c.args.at) w.in-Uncut.is
+          ∙ row-ready row c.args.at within))
       | in-Own w ↦ rw w.result-is (rw w.self-inside-is w.ready.ensures.ok)
     ]

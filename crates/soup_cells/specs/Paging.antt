@@ -1,0 +1,36 @@
+-- The pages of a soup, beside the row of its cells.
+use Rattle.std.specs.Prelude.{Bool, IfSome, List, None, Option, Some, [], false, length, replicate, true, ℕ, ◌+◌, ◌/◌, ◌≡◌}
+use Rattle.std.specs.Arc.{arc_value}
+use Rattle.soup_cells.specs.declared.soup.Paging.{Paging}
+use Rattle.soup_cells.specs.declared.soup.Paging.TheVariants.{Own, Shared, Uncut}
+use Rattle.soup_cells.specs.Cells.{Cells}
+
+-- the cells of the pages, where they are cut
+abbrev pub cells_in : Paging → Option (List ℕ)
+cells_in Uncut = None
+cells_in (Own pages) = Some pages.cells
+cells_in (Shared pages) = Some (arc_value pages).cells
+
+-- the pages have the cells of the row
+abbrev pub AreIn : List ℕ → Paging → Type 0
+AreIn row paging = IfSome (cells_in paging) (λ cells. cells ≡ row)
+
+-- for each page of the row whether it is the soup's own: all are that are not cut, and none that are shared
+abbrev pub own_of : List ℕ → Paging → List Bool
+own_of row Uncut = replicate ((length row + 4095) / 4096) true
+own_of row (Own pages) = pages.own
+own_of row (Shared pages) = []
+
+-- the soup of a row and its pages
+abbrev pub soup_of : List ℕ → Paging → Cells
+soup_of row paging = record { cells = row; own = own_of row paging }
+
+abbrev pub is_cut : Paging → Bool
+is_cut Uncut = false
+is_cut (Own pages) = true
+is_cut (Shared pages) = true
+
+abbrev pub has_own : Paging → Bool
+has_own Uncut = true
+has_own (Own pages) = true
+has_own (Shared pages) = false
