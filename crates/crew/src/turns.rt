@@ -16,20 +16,19 @@ use step_count::Steps;
 use tierra_model::{Groups, OutOfMemory};
 use turn_lock::{Seat, TurnLock};
 
-// The finding of a job, where there is memory for it. The job may have brought some.
-pub(crate) fn finding_of(workspace: &mut Workspace, mut job: Job) -> Option<Finding> {
-    workspace.take_room(&mut job);
-    counted_finding::<Brand>(workspace, &job, Blank::new(1))
+// The finding of a job, where there is memory for it.
+pub(crate) fn finding_of(workspace: &mut Workspace, job: Job) -> Option<Finding> {
+    counted_finding::<Brand>(workspace, job, Blank::new(1))
 }
 
 // The same, with an account of the instructions that only contracts see.
-fn counted_finding<L: Ledger>(workspace: &mut Workspace, job: &Job, blank: Blank) -> Option<Finding>
+fn counted_finding<L: Ledger>(workspace: &mut Workspace, job: Job, blank: Blank) -> Option<Finding>
     requires name { blank.name ≡ L.name }
     requires parts { blank.parts ≡ L.parts }
     requires some { 0 < L.parts }
 {
     let mut steps = Steps::<L>::start(blank);
-    workspace.run(job, &mut steps).ok()
+    workspace.complete(job, &mut steps).ok()
 }
 
 // Offers the finding, if there is one, and gives the next job, if there is one.

@@ -2,7 +2,7 @@
 
 ghost use Rattle.std.specs.Prelude.{◌≡◌, IfOk};
 
-use crate::job::Job;
+use crate::job::{Expected, Job};
 use crate::scratch::Room;
 use read_sets::Reads;
 use std::alloc::Global;
@@ -17,6 +17,8 @@ pub struct Finding {
     records: Box<Records>,
     reads: Reads,
     events: EventList,
+    // memory for a job, which no contract sees
+    expected: Option<Box<Expected>>,
 }
 
 /// What is large in a finding. It is boxed, since a finding goes through many hands.
@@ -84,6 +86,7 @@ impl Finding {
             records,
             reads,
             events,
+            expected: None,
         }
     }
 
@@ -95,7 +98,15 @@ impl Finding {
             reads,
             events: self.events.items,
             records: Some(self.records),
+            expected: self.expected,
         }
+    }
+
+    // Keeps the memory of the job that it came of, for a later job.
+    pub(crate) fn keep_memory_of(&mut self, job: Job)
+        ensures { self.new ≡ self.old }
+    {
+        self.expected = Some(job.into_expected());
     }
 
     /// The settings of the world in which it ran.
@@ -155,6 +166,7 @@ impl Finding {
             records,
             reads: self.reads.copy()?,
             events,
+            expected: None,
         })
     }
 }

@@ -7,6 +7,7 @@ ghost use Rattle.quantum_run.specs.Jobs.{OfSoundWorld};
 
 use crate::scratch::Room;
 use soup_cells::Version;
+use std::alloc::Global;
 use std::marker::Model;
 use std::sync::Arc;
 use tierra_model::{Block, Creature, FreeList, OutOfMemory, Settings, Standing, Yard};
@@ -15,14 +16,20 @@ use tierra_model::{Block, Creature, FreeList, OutOfMemory, Settings, Standing, Y
 /// The two lists are shared with the world that showed them, and not copied.
 #[derive(Drop)]
 pub struct Job {
-    settings: Settings,
     quantum: u64,
-    front: Creature,
+    expected: Box<Expected>,
     cells: Version,
     free: Arc<FreeList>,
     yard: Arc<Yard>,
     // memory for its finding, which no contract sees
     room: Option<Room>,
+}
+
+/// What is large in a job. It is boxed, since a job goes through many hands.
+#[derive(Clone, Copy, Drop)]
+pub(crate) struct Expected {
+    settings: Settings,
+    front: Creature,
 }
 
 impl Model for Job {
@@ -33,43 +40,49 @@ impl Model for Job {
 
     ghost Value = { Scene };
 
-    ghost view = { λ j. record { settings = j.settings; quanta = j.quantum - 1; front = j.front; soup = j.cells; free = arc_value j.free; yard = arc_value j.yard } };
+    ghost view = { λ j. record { settings = j.expected.value.settings; quanta = j.quantum - 1; front = j.expected.value.front; soup = j.cells; free = arc_value j.free; yard = arc_value j.yard } };
 
-    ghost invariant = { λ j. (1 ≤ j.quantum) × (length (arc_value j.yard) < 2 ^ 30) × OfSoundWorld (record { settings = j.settings; quanta = j.quantum - 1; front = j.front; soup = j.cells; free = arc_value j.free; yard = arc_value j.yard }) };
+    ghost invariant = { λ j. (1 ≤ j.quantum) × (length (arc_value j.yard) < 2 ^ 30) × OfSoundWorld (record { settings = j.expected.value.settings; quanta = j.quantum - 1; front = j.expected.value.front; soup = j.cells; free = arc_value j.free; yard = arc_value j.yard }) };
 }
 
 impl Job {
-    /// The job of a quantum, made of the parts of one sound world.
+    /// The job of a quantum, made of the parts of one sound world, with memory for its finding. It takes memory where that has
+    /// none for a job.
     pub fn of(
+        alloc: Global,
         settings: &Settings,
         quantum: u64,
         front: &Creature,
         cells: Version,
         free: Arc<FreeList>,
         yard: Arc<Yard>,
-    ) -> Job
+        room: Room,
+    ) -> Result<Job, OutOfMemory>
         requires one { 1 ≤ quantum }
-        requires sound { OfSoundWorld (record { settings = settings.now; quanta = quantum - 1; front = front.now; soup = cells; free = arc_value free; yard = arc_value yard }) }
-        ensures { result ≡ record { settings = settings.now; quanta = quantum - 1; front = front.now; soup = cells; free = arc_value free; yard = arc_value yard } }
+        requires sound { OfSoundWorld (record { settings = settings.now; quanta = quantum - 1; front = front.now;
+            soup = cells; free = arc_value free; yard = arc_value yard }) }
+        ensures { IfOk result (λ j. j ≡ record { settings = settings.now; quanta = quantum - 1; front = front.now;
+            soup = cells; free = arc_value free; yard = arc_value yard }) }
     {
-        Job {
+        let mut room = room;
+        let expected = Expected {
             settings: *settings,
-            quantum,
             front: *front,
+        };
+        let expected = boxed(alloc, expected, room.expected.take())?;
+        Ok(Job {
+            quantum,
+            expected,
             cells,
             free,
             yard,
-            room: None,
-        }
+            room: Some(room),
+        })
     }
 
-    // The same job, with memory for its finding.
-    pub(crate) fn with_room(self, room: Option<Room>) -> Job
-        ensures { result ≡ self }
-    {
-        let mut job = self;
-        job.room = room;
-        job
+    // Its own memory. What it shares is let go.
+    pub(crate) fn into_expected(self) -> Box<Expected> {
+        self.expected
     }
 
     // Gives up the memory for its finding.
@@ -83,7 +96,7 @@ impl Job {
         ensures settings { result.now ≡ self.now.settings }
         ensures sound { OfSoundWorld self.now }
     {
-        &self.settings
+        &self.expected.settings
     }
 
     pub(crate) fn cells(&self) -> &Version
@@ -131,6 +144,22 @@ impl Job {
     pub fn front(&self) -> &Creature
         ensures { result.now ≡ self.now.front }
     {
-        &self.front
+        &self.expected.front
     }
+}
+
+// The value in a box: the one that is there, or a new one.
+fn boxed(
+    alloc: Global,
+    expected: Expected,
+    there: Option<Box<Expected>>,
+) -> Result<Box<Expected>, OutOfMemory>
+    ensures { IfOk result (λ b. b.value ≡ expected) }
+{
+    if let Some(mut place) = there {
+        *place = expected;
+        return Ok(place);
+    }
+    let place = Box::new(alloc, expected)?;
+    Ok(place)
 }

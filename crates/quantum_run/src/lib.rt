@@ -14,4 +14,5 @@ pub mod yard;
 
 pub use finding::Finding;
 pub use job::Job;
+pub use scratch::Room;
 pub use workspace::{Workspace, run_quantum};

@@ -4,6 +4,7 @@ ghost use Rattle.std.specs.Prelude.{◌≡◌, ◌≤◌, [], IfOk, vec_capacity
 ghost use Rattle.read_sets.specs.Noted.{nothing};
 
 use crate::finding::Records;
+use crate::job::Expected;
 use block_alloc::Blocks;
 use read_sets::Reads;
 use std::alloc::Global;
@@ -25,12 +26,13 @@ impl Copies {
     }
 }
 
-/// The memory of a finding. It goes out with a job, and comes back once the finding is done with.
+/// The memory of a job and of its finding. It goes out with the job, and comes back once the finding is done with.
 #[derive(Drop)]
-pub(crate) struct Room {
+pub struct Room {
     pub(crate) reads: Reads,
     pub(crate) events: Vec<Event>,
     pub(crate) records: Option<Box<Records>>,
+    pub(crate) expected: Option<Box<Expected>>,
 }
 
 impl Room {
@@ -39,6 +41,7 @@ impl Room {
             reads: Reads::empty(alloc),
             events: Vec::new(alloc),
             records: None,
+            expected: None,
         }
     }
 
@@ -60,6 +63,7 @@ impl Room {
             reads,
             events: happened,
             records: self.records,
+            expected: self.expected,
         })
     }
 }

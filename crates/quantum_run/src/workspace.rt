@@ -58,7 +58,7 @@ impl Workspace {
         let slice = slice_of(job.front().own.size, settings);
         let free = job.share_free()?;
         let yard = job.share_yard()?;
-        let mut room = self.next_room();
+        let mut room = self.spare_room();
         let place = Records::place(alloc, job, room.records.take())?;
         let (marks, turn) = self.take_marks(settings.soup_size)?;
         let copies = mem::replace(&mut self.copies, Copies::new(alloc));
@@ -94,8 +94,8 @@ impl Workspace {
         Ok((marks, 1))
     }
 
-    // Memory for a finding, none of which is taken where none is kept.
-    fn next_room(&mut self) -> Room {
+    /// Memory for a job and its finding, where some is kept, and else none.
+    pub fn spare_room(&mut self) -> Room {
         let alloc = *self.marks.allocator();
         match self.rooms.pop() {
             Some(room) => room,
@@ -108,15 +108,25 @@ impl Workspace {
         self.put_room(finding.into_room());
     }
 
-    /// Gives the job memory for its finding, if some is kept. The job is the same otherwise.
-    pub fn lend_room(&mut self, job: Job) -> Job
-        ensures { result ≡ job }
+    /// Runs the quantum of a job that nobody else needs, with the memory that the job brings. The finding has the job's own
+    /// memory then, for a later job.
+    pub fn complete<L: Ledger>(
+        &mut self,
+        mut job: Job,
+        steps: &mut Steps<L>,
+    ) -> Result<Finding, OutOfMemory>
+        ensures scene { IfOk result (λ f. f ≡ finding_of job) }
+        ensures ticks { OnOk result (steps.new ≡ steps.old + quantum.slice_of job.front.own.size job.settings) }
+        ensures refused { OnErr result (steps.new ≡ steps.old) }
     {
-        job.with_room(self.rooms.pop())
+        self.take_room(&mut job);
+        let mut finding = self.run(&job, steps)?;
+        finding.keep_memory_of(job);
+        Ok(finding)
     }
 
-    /// Keeps the memory that a job brings for its finding. The job is the same otherwise.
-    pub fn take_room(&mut self, job: &mut Job)
+    // Keeps the memory that a job brings for its finding.
+    fn take_room(&mut self, job: &mut Job)
         ensures { job.new ≡ job.old }
     {
         if let Some(room) = job.take_room() {

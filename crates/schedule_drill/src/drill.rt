@@ -335,14 +335,13 @@ fn tally(book: &Book, answered: Answered) -> Tally
     }
 }
 
-// What the job's quantum finds. The job may have brought memory for that.
+// What the job's quantum finds.
 fn run_job<L: Ledger>(
     workspace: &mut Workspace,
-    mut job: Job,
+    job: Job,
     steps: &mut Steps<L>,
 ) -> Result<Finding, OutOfMemory>
     ensures { IfOk result (λ f. f ≡ finding_of job) }
 {
-    workspace.take_room(&mut job);
-    workspace.run(&job, steps)
+    workspace.complete(job, steps)
 }
