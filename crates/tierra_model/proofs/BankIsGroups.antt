@@ -3,6 +3,7 @@ use Rattle.std.proofs.Common.{◌≡◌, ℕ, zero, suc, ◌+◌, ◌<◌, ◌�
 use Rattle.std.specs.Prelude.{Some, None, Option, IfSome, All, map, filter, option_map, ◌==◌, if◌then◌else◌}
 use Rattle.std.proofs.lemmas.Bool.Decides.{eqb_tells}
 use Rattle.std.proofs.lemmas.List.Elements.{All-head, All-tail}
+use Rattle.tierra_model.specs.declared.limits.TheConstants.{MOST_QUANTA}
 use Rattle.tierra_model.specs.declared.genebank.Saved.{Saved}
 use Rattle.tierra_model.specs.declared.genebank.Name.{Name}
 use Rattle.tierra_model.specs.Laws.{BankIsGroups}
@@ -117,7 +118,7 @@ quantum_below m w s h =
     let k : ℕ = slice_of (front w).own.size w.settings in
     groups_below-old m q w (run world_machine w.settings q k w) s (adds-run w.settings q k w refl) h
 
-serial_below : (setup : SetupFields) (n : ℕ) → IsSetup setup → n ≤ 4000000 → groups_below (serial setup n) n ≡ bank setup n
+serial_below : (setup : SetupFields) (n : ℕ) → IsSetup setup → n ≤ MOST_QUANTA → groups_below (serial setup n) n ≡ bank setup n
 unfolding serial bank
 serial_below setup zero h few = refl
 serial_below setup (suc n) h few =

@@ -1,27 +1,18 @@
--- Worked examples, computed: draws, and a finding that stands.
+-- Worked examples, computed: a draw, and a finding that stands.
 use Rattle.std.proofs.Common.{◌≡◌, [], ◌∷◌, refl, pos, replicate, lit≤}
 use Rattle.std.specs.Prelude.{None}
-use Rattle.tierra_model.specs.declared.parameters.Settings.{Settings}
 use Rattle.tierra_model.specs.declared.events.Event.TheVariants as event
 use Rattle.tierra_model.specs.Draw.{word}
-use Rattle.tierra_model.specs.Quantum.{quantum}
 use Rattle.tierra_model.specs.World.{front}
 use Rattle.tierra_model.specs.Serial.{start}
 use Rattle.tierra_model.specs.Findings.{Finding, Stands}
 use Rattle.tierra_model.proofs.SearchRows.{zeros_from}
-use Rattle.tierra_model.proofs.Computing.{draws, quanta, scenes}
+use Rattle.tierra_model.proofs.Computing.{draws, scenes}
 use Rattle.tierra_model.proofs.Examples.{hundred, two}
 
 pub word-0 : word (replicate 32 0) 0 0 ≡ 804192318
 unfolding draws
 word-0 = refl
-
-abbrev pub mutating : Settings
-mutating = record hundred { back_rate = 1; copy_rate = 1; flaw_rate = 1 }
-
-pub mutated : (quantum (start (record two { settings = mutating }))).births ≡ 0
-unfolding quanta draws
-mutated = refl
 
 abbrev pub first_job : Finding
 first_job =

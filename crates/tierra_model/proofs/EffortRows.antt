@@ -1,5 +1,5 @@
 -- Worked examples, computed: efforts, and a disturbance.
-use Rattle.std.proofs.Common.{◌≡◌, lit≤, [], ◌∷◌, refl}
+use Rattle.std.proofs.Common.{◌≡◌, lit≤, [], ◌∷◌, refl, pos, replicate}
 use Rattle.std.specs.Prelude.{Some, None, map}
 use Rattle.tierra_model.specs.declared.creatures.Creature.{Creature}
 use Rattle.tierra_model.specs.Quantum.{quantum}
@@ -24,7 +24,51 @@ pub after_100-second : (genotype_at (serial (alone 1000 (lit≤ tt, lit≤ tt)) 
 unfolding quanta
 after_100-second = refl
 
-pub disturbed-living : map (λ (c : Creature). c.id) (serial four 2).living ≡ 2 ∷ 4 ∷ []
+-- creature 2 ran `inc_b`, then the cells up to 34, where `inc_c` and `dec_c` stand
+abbrev pub walked : Creature
+walked =
+    record {
+      id = 2;
+      own = record { at = 10; size = 1 };
+      daughter = None;
+      moved = 0;
+      ax = pos 0;
+      bx = pos 1;
+      cx = pos 0;
+      dx = pos 0;
+      ip = 35;
+      stack = replicate 10 (pos 0);
+      sp = 0;
+      flag = 0;
+      errors = 0;
+      genotype = 1;
+      ran = 25;
+      bred = 0;
+    }
+
+-- creature 4 has not run
+abbrev pub waiting : Creature
+waiting =
+    record {
+      id = 4;
+      own = record { at = 30; size = 1 };
+      daughter = None;
+      moved = 0;
+      ax = pos 0;
+      bx = pos 0;
+      cx = pos 0;
+      dx = pos 0;
+      ip = 30;
+      stack = replicate 10 (pos 0);
+      sp = 0;
+      flag = 0;
+      errors = 0;
+      genotype = 3;
+      ran = 0;
+      bred = 0;
+    }
+
+pub disturbed-living : (serial four 2).living ≡ walked ∷ waiting ∷ []
 unfolding quanta
 disturbed-living = refl
 
@@ -36,8 +80,7 @@ pub disturbed-filled : filled 100 (is_owned (serial four 2).living) ≡ 2
 unfolding quanta
 disturbed-filled = refl
 
-pub disturbed-front : front (serial four 2)
-    ≡ (record (front (start four)) { id = 4; own = record { at = 30; size = 1 }; ip = 30; genotype = 3 })
+pub disturbed-front : front (serial four 2) ≡ waiting
 unfolding quanta
 disturbed-front = refl
 

@@ -4,6 +4,7 @@ use Rattle.std.specs.Prelude.{All, nat_le, nat_lt, ◌&&◌, slice_set, length}
 use Rattle.std.proofs.lemmas.Bool.{and_parts, leb-true, ltb-true}
 use Rattle.std.proofs.lemmas.Bool.Decides.{nat_tests}
 use Rattle.std.proofs.lemmas.List.Elements.{All-nil, All-cons}
+use Rattle.tierra_model.specs.declared.limits.TheConstants.{MOST_CELLS, MOST_SIZE}
 use Rattle.tierra_model.specs.declared.parameters.Settings.{Settings}
 use Rattle.tierra_model.specs.declared.setups.Inoculum.{Inoculum}
 use Rattle.tierra_model.specs.Counting.{one_if, sum_of}
@@ -12,7 +13,7 @@ use Rattle.tierra_model.specs.Blocks.{is_in}
 use Rattle.tierra_model.specs.Setups.{SetupFields, IsSetup, block_of, default_settings}
 
 -- the default settings, in a soup of n cells
-abbrev pub soup_of : (n : ℕ) → (100 ≤ n) × (n ≤ 1048576) → Settings
+abbrev pub soup_of : (n : ℕ) → (100 ≤ n) × (n ≤ MOST_CELLS) → Settings
 soup_of n range = record default_settings { soup_size = n; soup = range }
 
 abbrev pub hundred : Settings
@@ -39,6 +40,19 @@ asks =
           ∷ record { at = 50; code = 1 ∷ 1 ∷ 1 ∷ 1 ∷ 1 ∷ 1 ∷ 1 ∷ 1 ∷ 1 ∷ 1 ∷ [] } ∷ [];
     }
 
+-- creature 1 at 50 asks for 64 cells, which never fit before or behind it
+abbrev pub cramped : SetupFields
+cramped =
+    record {
+      settings = record hundred { slice_size = 9; slice = (lit≤ tt, lit≤ tt); mal_mult = 100; mult = (lit≤ tt, lit≤ tt) };
+      creatures = record { at = 50; code = 4 ∷ 2 ∷ 3 ∷ 3 ∷ 3 ∷ 3 ∷ 3 ∷ 3 ∷ 30 ∷ 0 ∷ [] }
+          ∷ record { at = 0; code = 1 ∷ 1 ∷ 1 ∷ 1 ∷ 1 ∷ 1 ∷ 1 ∷ 1 ∷ 1 ∷ 1 ∷ [] } ∷ [];
+    }
+
+-- a creature in a soup of 100 cells
+abbrev pub one : Settings → ℕ → List ℕ → SetupFields
+one settings at code = record { settings = settings; creatures = record { at = at; code = code } ∷ [] }
+
 -- `inc_a`, `inc_b`, `inc_c` and `dec_c`, of whom half die in quantum 2
 abbrev pub four : SetupFields
 four =
@@ -56,7 +70,7 @@ ancestor =
     ∷ 9 ∷ 20 ∷ 0 ∷ 1 ∷ 0 ∷ 1 ∷ 5 ∷ 1 ∷ 0 ∷ 1 ∷ 1 ∷ 18 ∷ 17 ∷ 16 ∷ 23 ∷ 1 ∷ 1 ∷ 1 ∷ 0 ∷ 5 ∷ []
 
 -- the ancestor alone in a soup of n cells
-abbrev pub alone : (n : ℕ) → (100 ≤ n) × (n ≤ 1048576) → SetupFields
+abbrev pub alone : (n : ℕ) → (100 ≤ n) × (n ≤ MOST_CELLS) → SetupFields
 alone n range = record { settings = soup_of n range; creatures = record { at = 0; code = ancestor } ∷ [] }
 
 -- the ancestor, saved at the third individual
@@ -81,7 +95,7 @@ are_codes (v ∷ vs) = nat_lt v 32 && are_codes vs
 abbrev pub stand_from : ℕ → ℕ → List Inoculum → Bool
 stand_from n k [] = true
 stand_from n k (c ∷ cs) =
-    nat_le 1 (length c.code) && (nat_le (length c.code) 20000 && (are_codes c.code
+    nat_le 1 (length c.code) && (nat_le (length c.code) MOST_SIZE && (are_codes c.code
     && (nat_le k c.at && (nat_le (c.at + length c.code) n && stand_from n (c.at + length c.code) cs))))
 
 abbrev IsCell : ℕ → Type 0

@@ -2,6 +2,7 @@
 use Rattle.std.proofs.Common.{◌≡◌, ℕ, ◌≤◌, arith, ◌+◌, true, [], ◌∷◌, ◌++◌, lit≤, refl, ap}
 use Rattle.std.specs.Prelude.{Some, None, pos, if◌then◌else◌, length, slice_index, slice_set, take, unwrap_or}
 use Rattle.std.proofs.lemmas.Bool.{eqb-false}
+use Rattle.tierra_model.specs.declared.limits.TheConstants.{MOST_QUANTA}
 use Rattle.tierra_model.specs.Blocks.{no_block}
 use Rattle.tierra_model.specs.Quantum.{Machine, run, slice_of}
 use Rattle.tierra_model.specs.Living.{one_of}
@@ -142,11 +143,11 @@ settings_needed claim =
 abbrev StandsTo : ℕ → Type 0
 StandsTo most = (w : World) → IsSound w → w.quanta ≤ most → Stands (finding_of (scene_of w))
 
-pub not_after_the_last : StandsTo 4000000 → ⊥
+pub not_after_the_last : StandsTo MOST_QUANTA → ⊥
 unfolding scene_of
 not_after_the_last claim =
-    let last = serial_is_sound two 4000000 (is_setup two (lit≤ tt) refl) (lit≤ tt) in
-    let stands = claim (serial two 4000000) last.sound (omega (arith, last.quanta)) in
+    let last = serial_is_sound two MOST_QUANTA (is_setup two (lit≤ tt) refl) (lit≤ tt) in
+    let stands = claim (serial two MOST_QUANTA) last.sound (omega (arith, last.quanta)) in
     omega (arith, stands.at_most_limit, last.quanta)
 
 -- ---- a scene notes no more than its world

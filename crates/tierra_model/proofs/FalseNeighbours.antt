@@ -4,6 +4,7 @@ use Rattle.std.specs.Prelude.{Some, None, Option, All, pos, ◌==◌, ◌%◌, i
 use Rattle.std.proofs.lemmas.Bool.{eqb-false}
 use Rattle.std.proofs.lemmas.Bool.Decides.{nat_tests}
 use Rattle.std.proofs.lemmas.List.Elements.{All-nil, All-cons, All-head}
+use Rattle.tierra_model.specs.declared.limits.TheConstants.{MOST_QUANTA}
 use Rattle.tierra_model.specs.declared.creatures.Block.{Block}
 use Rattle.tierra_model.specs.declared.creatures.Creature.{Creature}
 use Rattle.tierra_model.specs.declared.history.Stale.{Stale}
@@ -43,8 +44,8 @@ SoundBelow n = (w : World) → IsSound w → w.quanta < n → StaysSound w
 -- A world after 4,000,000 quanta is sound, and after one more it is not.
 pub not_below_five_million : SoundBelow 5000000 → ⊥
 not_below_five_million claim =
-    let last = serial_is_sound two 4000000 (is_setup two (lit≤ tt) refl) (lit≤ tt) in
-    let next = claim (serial two 4000000) last.sound (omega (arith, last.quanta)) in
+    let last = serial_is_sound two MOST_QUANTA (is_setup two (lit≤ tt) refl) (lit≤ tt) in
+    let next = claim (serial two MOST_QUANTA) last.sound (omega (arith, last.quanta)) in
     omega (arith, next.sound.quanta, next.quanta, last.quanta)
 
 abbrev SerialTo : ℕ → Type 0
@@ -57,7 +58,7 @@ not_to_five_million claim =
 
 -- Turned to a number that nobody living has, a world has another creature at the front.
 abbrev TurnsToAny : Type 0
-TurnsToAny = (w : World) (q id : ℕ) → IsSound w → w.quanta + 1 ≤ q → q ≤ 4000000 → TurnsSound w q id
+TurnsToAny = (w : World) (q id : ℕ) → IsSound w → w.quanta + 1 ≤ q → q ≤ MOST_QUANTA → TurnsSound w q id
 
 pub not_to_anyone : TurnsToAny → ⊥
 unfolding quanta
@@ -66,7 +67,7 @@ not_to_anyone claim =
     eqb-false 1 3 refl (claim (start two) 1 3 s.sound (lit≤ tt) (lit≤ tt)).front
 
 abbrev TurnsBack : Type 0
-TurnsBack = (w : World) (q id : ℕ) → IsSound w → 1 ≤ q → q ≤ 4000000 → 0 < times_in w.slicer id → TurnsSound w q id
+TurnsBack = (w : World) (q id : ℕ) → IsSound w → 1 ≤ q → q ≤ MOST_QUANTA → 0 < times_in w.slicer id → TurnsSound w q id
 
 -- `mal` of 12 cells and `divide`, where a daughter may be born with nothing copied, and one individual is enough
 abbrev breeds : SetupFields
@@ -144,7 +145,7 @@ not_greatest_fit claim = claim 2 (λ p. false) 1 0 refl 1 (lit≤ tt) (lit≤ tt
 -- ---- the genebank
 
 abbrev BankBelow : (ℕ → ℕ) → Type 0
-BankBelow number = (setup : SetupFields) (n : ℕ) → IsSetup setup → n ≤ 4000000 → groups_of (serial setup n) ≡ bank setup (number n)
+BankBelow number = (setup : SetupFields) (n : ℕ) → IsSetup setup → n ≤ MOST_QUANTA → groups_of (serial setup n) ≡ bank setup (number n)
 
 -- The start saves a group, which a bank of the quanta below 0 has not.
 pub not_one_quantum_less : BankBelow (λ n. n) → ⊥
@@ -157,7 +158,7 @@ unfolding bank quanta
 not_one_quantum_more claim = eqb-false 1 2 refl (ap length (claim breeds 0 (is_setup breeds (lit≤ tt) refl) (lit≤ tt)))
 
 abbrev PayloadBelow : ℕ → Type 0
-PayloadBelow most = (setup : SetupFields) (n : ℕ) → IsSetup setup → n ≤ 4000000 → All (λ g. payload_size g < most) (bank setup (n + 1))
+PayloadBelow most = (setup : SetupFields) (n : ℕ) → IsSetup setup → n ≤ MOST_QUANTA → All (λ g. payload_size g < most) (bank setup (n + 1))
 
 -- The group of two small creatures has 131 bytes.
 pub not_below_131 : PayloadBelow 131 → ⊥

@@ -6,6 +6,8 @@ pub mod MalRows
 pub mod AncestorRows
 pub mod EffortRows
 pub mod DrawRows
+pub mod MutationRows
+pub mod SliceRows
 pub mod SetupRows
 pub mod BankRows
 -- lists of creatures, blocks and genotypes

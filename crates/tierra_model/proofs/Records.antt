@@ -1,6 +1,7 @@
 -- A step keeps a creature's number, blocks, error count and genotype.
 use Rattle.std.proofs.Common.{◌≡◌, ℕ, ◌+◌, ◌*◌, ◌%◌, ◌^◌, ◌<◌, ◌≤◌, Bool, true, false, cond, refl, ap, arith, min}
 use Rattle.std.specs.Prelude.{Some, None, Option, IsSome, is_some, ℤ, pos, negsuc, if◌then◌else◌, ◌||◌, ◌&&◌, nat_le, slice_index}
+use Rattle.tierra_model.specs.declared.limits.TheConstants.{MOST_SIZE}
 use Rattle.tierra_model.specs.declared.ops.Op.{Op}
 use Rattle.tierra_model.specs.declared.ops.Op.TheVariants.{Nop0, Nop1, Or1, Shl, Zero, IfCz, SubAb, SubAc, IncA, IncB, DecC, IncC, PushAx, PushBx, PushCx, PushDx, PopAx, PopBx, PopCx, PopDx, Jmp, JmpB, Call, Ret, MovCd, MovAb, MovIab, Adr, AdrB, AdrF, Mal, Divide}
 use Rattle.tierra_model.specs.declared.parameters.Settings.{Settings}
@@ -43,7 +44,7 @@ abbrev pub CanDo : Settings → Creature → Act → Type 0
 CanDo s d act.Plain = Unit {0}
 CanDo s d (act.Wrote at value) = (at < s.soup_size) × (value < 32)
 CanDo s d act.Erred = Unit {0}
-CanDo s d (act.Mal size) = (1 ≤ size) × (size ≤ 20000)
+CanDo s d (act.Mal size) = (1 ≤ size) × (size ≤ MOST_SIZE)
 CanDo s d act.Divide = IsSome d.daughter × (1 ≤ d.ran)
 
 abbrev pub Keeps : Settings → Creature → Outcome → Type 0

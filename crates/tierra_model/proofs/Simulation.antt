@@ -1,6 +1,7 @@
 -- Two machines that agree at each operation agree over a quantum, as far as what they noted agrees.
 use Rattle.std.proofs.Common.{◌≡◌, ℕ, zero, suc, ◌+◌, ◌*◌, ◌/◌, ◌<◌, ◌≤◌, Bool, true, false, refl, sym, ◌∙◌, ap, subst, arith, length}
 use Rattle.std.specs.Prelude.{Some, None, Option, IsSome, is_some}
+use Rattle.tierra_model.specs.declared.limits.TheConstants.{MOST_SIZE}
 use Rattle.tierra_model.specs.declared.parameters.Settings.{Settings}
 use Rattle.tierra_model.specs.declared.creatures.Block.{Block}
 use Rattle.tierra_model.specs.declared.creatures.Creature.{Creature}
@@ -32,7 +33,7 @@ IsDone P s Free Yard x event.Err = Unit {0}
 IsDone P s Free Yard x event.Good = Unit {0}
 IsDone P s Free Yard x event.GiveUp = IsSome (P.front x).daughter
 IsDone P s Free Yard x (event.Mal at size) =
-    (1 ≤ size) × (size ≤ 20000) × Free × ((P.front x).daughter ≡ None) × (room_for s (P.owned x) size ≡ Some at)
+    (1 ≤ size) × (size ≤ MOST_SIZE) × Free × ((P.front x).daughter ≡ None) × (room_for s (P.owned x) size ≡ Some at)
 IsDone P s Free Yard x (event.Reap place) = Yard × (victim P s x ≡ Some place)
 IsDone P s Free Yard x (event.Divide ran moved) = IsSome (P.front x).daughter × (1 ≤ ran)
 
@@ -113,7 +114,7 @@ module _ {S T : Type 0} (P : Machine S) (Q : Machine T) (s : Settings) (F : S �
 
   -- what a mal has while it makes room
   abbrev Asks : ℕ → S → T → Type 0
-  Asks size x y = (1 ≤ size) × (size ≤ 20000) × F x y × Free × ((P.front x).daughter ≡ None)
+  Asks size x y = (1 ≤ size) × (size ≤ MOST_SIZE) × F x y × Free × ((P.front x).daughter ≡ None)
 
   same-room_for : (size : ℕ) (x : S) (y : T) → Asks size x y → room_for s (Q.owned y) size ≡ room_for s (P.owned x) size
   same-room_for size x y q = sym (room_for-alike s (P.owned x) (Q.owned y) size q.0 (m.owned x y q.2 q.3))
@@ -184,7 +185,7 @@ module _ {S T : Type 0} (P : Machine S) (Q : Machine T) (s : Settings) (F : S �
       go None e = f
       go (Some b) e = m.apply event.GiveUp x y f (ap (λ (d : Option Block). is_some d) e)
 
-  same-mal : (size : ℕ) (x : S) (y : T) → 1 ≤ size → size ≤ 20000 → F x y → A (mal P s size x) → B (mal Q s size y) → F (mal P s size x) (mal Q s size y)
+  same-mal : (size : ℕ) (x : S) (y : T) → 1 ≤ size → size ≤ MOST_SIZE → F x y → A (mal P s size x) → B (mal Q s size y) → F (mal P s size x) (mal Q s size y)
   same-mal size x y one few f a b =
       let h : Free = m.free x y f (each-mal P s (Back A) m.first size x a) (each-mal Q s (Back B) m.second size y b) in
       let u : S = give_up P s (P.ask_free x) in

@@ -3,6 +3,7 @@ use Rattle.std.proofs.Common.{◌≡◌, ℕ, ◌+◌, ◌*◌, ◌^◌, ◌<◌
 use Rattle.std.specs.Prelude.{All, min, max, ◌/◌, ◌==◌, if◌then◌else◌, nat_lt, nat_le}
 use Rattle.std.proofs.lemmas.Bool.Decides.{nat_tests, eqb_tells}
 use Rattle.std.proofs.lemmas.List.Elements.{All-nil, All-cons, All-head, All-tail, All-weaker}
+use Rattle.tierra_model.specs.declared.limits.TheConstants.{MOST_QUANTA, MOST_SLICE}
 use Rattle.tierra_model.specs.declared.parameters.Settings.{Settings}
 use Rattle.tierra_model.specs.declared.creatures.Creature.{Creature}
 use Rattle.tierra_model.specs.Queue.{rotation}
@@ -193,7 +194,7 @@ sizes_below gs saved q z p h k l = elim (eqb_tells p q) [
   | inr e ↦ h p e.1
 ]
 
-sound-turn_end_in : (e m b z q : ℕ) (w : World) → WithinQuantum w.settings e m b z q w → e ≤ count_limit q → m ≤ count_limit q → b ≤ count_limit q → z < 2 ^ 30 → q ≤ 4000000 → IsSound (turn_end w)
+sound-turn_end_in : (e m b z q : ℕ) (w : World) → WithinQuantum w.settings e m b z q w → e ≤ count_limit q → m ≤ count_limit q → b ≤ count_limit q → z < 2 ^ 30 → q ≤ MOST_QUANTA → IsSound (turn_end w)
 sound-turn_end_in e m b z q w d he hm hb hz hq =
     let c = d.population in
     let n : ℕ = w.settings.soup_size in
@@ -230,15 +231,15 @@ sound-turn_end_in e m b z q w d he hm hb hz hq =
       sizes = λ p. sizes_below w.genotypes w.saved q z p d.saves.sizes d.saves.size hz;
     }
 
-pub sound-turn_end : (s : Settings) (e m b z q : ℕ) (w : World) → WithinQuantum s e m b z q w → e ≤ count_limit q → m ≤ count_limit q → b ≤ count_limit q → z < 2 ^ 30 → q ≤ 4000000 → IsSound (turn_end w)
+pub sound-turn_end : (s : Settings) (e m b z q : ℕ) (w : World) → WithinQuantum s e m b z q w → e ≤ count_limit q → m ≤ count_limit q → b ≤ count_limit q → z < 2 ^ 30 → q ≤ MOST_QUANTA → IsSound (turn_end w)
 sound-turn_end s e m b z q w d he hm hb hz hq = sound-turn_end_in e m b z q w (subst (λ t. WithinQuantum t e m b z q w) (sym d.settings) d) he hm hb hz hq
 
 -- ---- a quantum
 
-slice_few : (size : ℕ) (s : Settings) → slice_of size s ≤ 10000
+slice_few : (size : ℕ) (s : Settings) → slice_of size s ≤ MOST_SLICE
 slice_few size s = go s.slice_by_size
   where
-    go : (b : Bool) → (if b then min 10000 (max 1 (size * s.slice_num / s.slice_den)) else s.slice_size) ≤ 10000
+    go : (b : Bool) → (if b then min MOST_SLICE (max 1 (size * s.slice_num / s.slice_den)) else s.slice_size) ≤ MOST_SLICE
     go true = omega arith
     go false = omega (arith, s.slice)
 
@@ -257,13 +258,13 @@ pub quantum-settings : (w : World) → IsSound w → (quantum w).settings ≡ w.
 unfolding quantum
 quantum-settings w s = (within-quantum w (slice_of (front w).own.size w.settings) s).settings
 
-pub quantum-sound : (w : World) → IsSound w → w.quanta < 4000000 → IsSound (quantum w)
+pub quantum-sound : (w : World) → IsSound w → w.quanta < MOST_QUANTA → IsSound (quantum w)
 unfolding quantum
 quantum-sound w s h =
     let k : ℕ = slice_of (front w).own.size w.settings in
     let l : ℕ = count_limit w.quanta in
     let q : ℕ = w.quanta + 1 in
-    let few : k ≤ 10000 = slice_few (front w).own.size w.settings in
+    let few : k ≤ MOST_SLICE = slice_few (front w).own.size w.settings in
     sound-turn_end w.settings (l + k) (l + k) (l + k) (0 + 20100 * k) q (run world_machine w.settings q k w)
     (within-quantum w k s) (omega arith) (omega arith) (omega arith) (omega arith) (omega arith)
 

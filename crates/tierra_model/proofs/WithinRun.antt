@@ -2,6 +2,7 @@
 use Rattle.std.proofs.Common.{◌≡◌, ℕ, zero, suc, ◌+◌, ◌*◌, ◌/◌, ◌<◌, ◌≤◌, Bool, true, false, List, [], ◌∷◌, refl, sym, ◌∙◌, ap, subst, arith, length}
 use Rattle.std.specs.Prelude.{Some, None, Option, IsSome, All, is_some, nat_lt, slice_index}
 use Rattle.std.proofs.lemmas.Bool.Decides.{nat_tests}
+use Rattle.tierra_model.specs.declared.limits.TheConstants.{MOST_SIZE}
 use Rattle.tierra_model.specs.declared.parameters.Settings.{Settings}
 use Rattle.tierra_model.specs.declared.creatures.Block.{Block}
 use Rattle.tierra_model.specs.declared.creatures.Creature.{Creature}
@@ -55,7 +56,7 @@ record Asks (s : Settings) (e m b z q size : ℕ) (w : World) : Type 0 where
   within : WithinQuantum s e m b z q w
   none : (front w).daughter ≡ None
   one : 1 ≤ size
-  few : size ≤ 20000
+  few : size ≤ MOST_SIZE
 
 abbrev OneMore : Settings → ℕ → ℕ → ℕ → ℕ → ℕ → World → Type 0
 OneMore s e m b z q w = WithinQuantum s (e + 1) m b z q w
@@ -106,7 +107,7 @@ within-make_room s e m b z q size (suc n) w a = go (room_for s (world_machine.ow
 
 -- ---- mal
 
-asks-give_up : (s : Settings) (e m b z q size : ℕ) (w : World) → 1 ≤ size → size ≤ 20000 → WithinQuantum s e m b z q w → Asks s e m b z q size (give_up world_machine s w)
+asks-give_up : (s : Settings) (e m b z q size : ℕ) (w : World) → 1 ≤ size → size ≤ MOST_SIZE → WithinQuantum s e m b z q w → Asks s e m b z q size (give_up world_machine s w)
 asks-give_up s e m b z q size w one few d = go (front w).daughter refl
   where
     go : (o : Option Block) → (front w).daughter ≡ o → Asks s e m b z q size (elim o [ None ↦ w | Some x ↦ apply_event w event.GiveUp ])
@@ -121,7 +122,7 @@ asks-give_up s e m b z q size w one few d = go (front w).daughter refl
           few = few;
         }
 
-within-mal : (s : Settings) (e m b z q size : ℕ) (w : World) → 1 ≤ size → size ≤ 20000 → WithinQuantum s e m b z q w → OneMore s e m b z q (mal world_machine s size w)
+within-mal : (s : Settings) (e m b z q size : ℕ) (w : World) → 1 ≤ size → size ≤ MOST_SIZE → WithinQuantum s e m b z q w → OneMore s e m b z q (mal world_machine s size w)
 within-mal s e m b z q size w one few d =
     let u : World = give_up world_machine s w in
     within-make_room s e m b z q size (number_of_others (world_machine.front u).id (world_machine.reaper u)) u (asks-give_up s e m b z q size w one few d)

@@ -1,5 +1,6 @@
 -- Findings: what a quantum that ran alone found, and when it is that of a world.
 use Rattle.std.specs.Prelude.{List, None, Option, Some, [], replicate, slice_index, slice_set, unwrap_or, ℕ, ◌+◌, ◌-◌, ◌∷◌, ◌<◌, ◌≡◌, ◌≤◌}
+use Rattle.tierra_model.specs.declared.limits.TheConstants.{MOST_QUANTA}
 use Rattle.tierra_model.specs.declared.creatures.Creature.{Creature}
 use Rattle.tierra_model.specs.declared.events.Event.{Event}
 use Rattle.tierra_model.specs.declared.parameters.Settings.{Settings}
@@ -57,11 +58,11 @@ pub record Stands (f : Finding) : Type 0 where
   pub events : (run_in_scene (scene_of_finding f)).events ≡ f.events
   pub after : (run_in_scene (scene_of_finding f)).now.front ≡ f.after
   pub at_least_one : 1 ≤ f.quantum
-  pub at_most_limit : f.quantum ≤ 4000000
+  pub at_most_limit : f.quantum ≤ MOST_QUANTA
 
 -- What the quantum of a sound world finds in its scene stands: a scene that holds only what was read runs alike.
 abbrev pub FindingStands : Type 0
-FindingStands = (w : World) → IsSound w → w.quanta < 4000000 → Stands (finding_of (scene_of w))
+FindingStands = (w : World) → IsSound w → w.quanta < MOST_QUANTA → Stands (finding_of (scene_of w))
 
 abbrev pub CellsAgree : List (ℕ × ℕ) → World → Type 0
 CellsAgree [] w = Unit {0}

@@ -1,5 +1,6 @@
 -- The ranges of a group of the genebank.
 use Rattle.std.specs.Prelude.{ℕ, ◌+◌, ◌^◌, ◌<◌, ◌≡◌, ◌≤◌, All, IfSome, List, length, None}
+use Rattle.tierra_model.specs.declared.limits.TheConstants.{COUNT_END, MOST_SIZE}
 use Rattle.tierra_model.specs.declared.genebank.Form.{Form}
 use Rattle.tierra_model.specs.declared.genebank.Form.TheVariants as form
 use Rattle.tierra_model.specs.declared.genebank.Name.{Name}
@@ -14,7 +15,7 @@ pub record GroupFields : Type 0 where
   pub saved : List Saved
 
 abbrev pub IsName : Name → Type 0
-IsName n = (1 ≤ n.size) × (n.size ≤ 20000) × (n.rank < 2 ^ 60)
+IsName n = (1 ≤ n.size) × (n.size ≤ MOST_SIZE) × (n.rank < COUNT_END)
 
 -- form One has no efforts, and in form Two each effort has run an instruction
 abbrev pub EffortsIn : Form → Saved → Type 0

@@ -1,5 +1,6 @@
 -- The laws on soundness, and on the genebank.
 use Rattle.std.specs.Prelude.{All, List, Option, false, length, true, ℕ, ◌*◌, ◌+◌, ◌/◌, ◌<◌, ◌≡◌, ◌≢◌, ◌≤◌}
+use Rattle.tierra_model.specs.declared.limits.TheConstants.{MOST_QUANTA}
 use Rattle.tierra_model.specs.declared.creatures.Creature.{Creature}
 use Rattle.tierra_model.specs.declared.creatures.Standing.{Standing}
 use Rattle.tierra_model.specs.Queue.{error_move, good_move}
@@ -21,7 +22,7 @@ pub record StaysSound (w : World) : Type 0 where
   pub quanta : (quantum w).quanta ≡ w.quanta + 1
 
 abbrev pub QuantumIsSound : Type 0
-QuantumIsSound = (w : World) → IsSound w → w.quanta < 4000000 → StaysSound w
+QuantumIsSound = (w : World) → IsSound w → w.quanta < MOST_QUANTA → StaysSound w
 
 -- Every world of a serial run is sound, and has the settings of the setup and the quanta that were run.
 pub record IsSerialRun (setup : SetupFields) (n : ℕ) : Type 0 where
@@ -30,7 +31,7 @@ pub record IsSerialRun (setup : SetupFields) (n : ℕ) : Type 0 where
   pub quanta : (serial setup n).quanta ≡ n
 
 abbrev pub SerialIsSound : Type 0
-SerialIsSound = (setup : SetupFields) (n : ℕ) → IsSetup setup → n ≤ 4000000 → IsSerialRun setup n
+SerialIsSound = (setup : SetupFields) (n : ℕ) → IsSetup setup → n ≤ MOST_QUANTA → IsSerialRun setup n
 
 -- Turned so that a living creature is at the front, before any quantum to come, a sound world is sound.
 pub record TurnsSound (w : World) (q id : ℕ) : Type 0 where
@@ -38,7 +39,7 @@ pub record TurnsSound (w : World) (q id : ℕ) : Type 0 where
   pub front : first_of (ahead w q id).slicer ≡ id
 
 abbrev pub AheadIsSound : Type 0
-AheadIsSound = (w : World) (q id : ℕ) → IsSound w → w.quanta + 1 ≤ q → q ≤ 4000000 → 0 < times_in w.slicer id → TurnsSound w q id
+AheadIsSound = (w : World) (q id : ℕ) → IsSound w → w.quanta + 1 ≤ q → q ≤ MOST_QUANTA → 0 < times_in w.slicer id → TurnsSound w q id
 
 -- The disturbance of a sound world, which comes after the background flip, counts the living.
 abbrev pub DisturbanceCountsLiving : Type 0
@@ -48,11 +49,11 @@ DisturbanceCountsLiving = (w : World) (bit : Option (ℕ × ℕ)) → IsSound w
 
 -- The groups of the world after n quanta are the genebank of a run of n quanta.
 abbrev pub BankIsGroups : Type 0
-BankIsGroups = (setup : SetupFields) (n : ℕ) → IsSetup setup → n ≤ 4000000 → groups_of (serial setup n) ≡ bank setup (n + 1)
+BankIsGroups = (setup : SetupFields) (n : ℕ) → IsSetup setup → n ≤ MOST_QUANTA → groups_of (serial setup n) ≡ bank setup (n + 1)
 
 -- Each group of a genebank is in the ranges.
 abbrev pub BankInRange : Type 0
-BankInRange = (setup : SetupFields) (n : ℕ) → IsSetup setup → n ≤ 4000000 → All IsGroup (bank setup (n + 1))
+BankInRange = (setup : SetupFields) (n : ℕ) → IsSetup setup → n ≤ MOST_QUANTA → All IsGroup (bank setup (n + 1))
 
 -- No creature of a sound world has a newborn's stand-in, and a queue move of one that a yard lacks changes nothing.
 abbrev pub YardsAreSafe : Type 0

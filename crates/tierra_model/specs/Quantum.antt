@@ -3,6 +3,7 @@ use Rattle.std.specs.Prelude.{Bool, List, None, Option, Some, false, if◌then�
 use Rattle.tierra_model.specs.declared.events.Act.{Act}
 use Rattle.tierra_model.specs.declared.creatures.Creature.{Creature}
 use Rattle.tierra_model.specs.declared.events.Event.{Event}
+use Rattle.tierra_model.specs.declared.limits.TheConstants.{MOST_SLICE}
 use Rattle.tierra_model.specs.declared.parameters.Settings.{Settings}
 use Rattle.tierra_model.specs.declared.events.Act.TheVariants as act
 use Rattle.tierra_model.specs.declared.events.Event.TheVariants as event
@@ -124,7 +125,7 @@ module _ {S : Type 0} (P : Machine S) (s : Settings) where
 -- how many instructions a creature of the size runs in a quantum
 abbrev pub slice_of : ℕ → Settings → ℕ
 slice_of size s =
-    if s.slice_by_size then min 10000 (max 1 (size * s.slice_num / s.slice_den)) else s.slice_size
+    if s.slice_by_size then min MOST_SLICE (max 1 (size * s.slice_num / s.slice_den)) else s.slice_size
 
 -- ---- in a world
 

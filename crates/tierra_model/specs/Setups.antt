@@ -1,7 +1,8 @@
 -- What a world begins with.
-use Rattle.std.specs.Prelude.{ℕ, ◌+◌, ◌<◌, ◌≤◌, All, false, List, [], ◌∷◌, length, replicate}
+use Rattle.std.specs.Prelude.{ℕ, ◌+◌, ◌<◌, ◌≤◌, All, List, [], ◌∷◌, length}
 use Rattle.std.proofs.Common.{lit≤}
 use Rattle.tierra_model.specs.declared.creatures.Block.{Block}
+use Rattle.tierra_model.specs.declared.keys.TheConstants.{SOUP_SIZE, SLICE_SIZE, SLICE_BY_SIZE, SLICE_NUM, SLICE_DEN, SEARCH_LIMIT, MIN_TEMPLATE, MIN_CELL, MAX_CELL, MAL_MULT, FILL_PERCENT, MOVE_PERCENT, SAVE_AT, BACK_RATE, COPY_RATE, FLAW_RATE, SEED, DIST_EVERY, DIST_PERCENT}
 use Rattle.tierra_model.specs.declared.parameters.Settings.{Settings}
 use Rattle.tierra_model.specs.declared.setups.Inoculum.{Inoculum}
 use Rattle.tierra_model.specs.Counting.{one_if, sum_of}
@@ -27,25 +28,25 @@ pub record IsSetup (setup : SetupFields) : Type 0 where
 abbrev pub default_settings : Settings
 default_settings =
     record {
-      soup_size = 60000;
-      slice_size = 25;
-      slice_by_size = false;
-      slice_num = 1;
-      slice_den = 4;
-      search_limit = 400;
-      min_template = 1;
-      min_cell = 12;
-      max_cell = 20000;
-      mal_mult = 3;
-      fill_percent = 80;
-      move_percent = 70;
-      save_at = 2;
-      back_rate = 0;
-      copy_rate = 0;
-      flaw_rate = 0;
-      seed = replicate 32 0;
-      dist_every = 0;
-      dist_percent = 10;
+      soup_size = SOUP_SIZE.default;
+      slice_size = SLICE_SIZE.default;
+      slice_by_size = SLICE_BY_SIZE;
+      slice_num = SLICE_NUM.default;
+      slice_den = SLICE_DEN.default;
+      search_limit = SEARCH_LIMIT.default;
+      min_template = MIN_TEMPLATE.default;
+      min_cell = MIN_CELL.default;
+      max_cell = MAX_CELL.default;
+      mal_mult = MAL_MULT.default;
+      fill_percent = FILL_PERCENT.default;
+      move_percent = MOVE_PERCENT.default;
+      save_at = SAVE_AT.default;
+      back_rate = BACK_RATE.default;
+      copy_rate = COPY_RATE.default;
+      flaw_rate = FLAW_RATE.default;
+      seed = SEED;
+      dist_every = DIST_EVERY.default;
+      dist_percent = DIST_PERCENT.default;
       soup = (lit≤ tt, lit≤ tt);
       slice = (lit≤ tt, lit≤ tt);
       by_size = (lit≤ tt, lit≤ tt, lit≤ tt, lit≤ tt);

@@ -1,6 +1,7 @@
 -- When a world is sound.
 use Rattle.std.specs.Prelude.{All, IfSome, List, [], if◌then◌else◌, length, map, nat_le, ℕ, ◌*◌, ◌+◌, ◌<◌, ◌==◌, ◌^◌, ◌∷◌, ◌≡◌, ◌≤◌}
 use Rattle.std.specs.Str.{bytes_eq}
+use Rattle.tierra_model.specs.declared.limits.TheConstants.{MOST_QUANTA, MOST_SLICE}
 use Rattle.tierra_model.specs.declared.creatures.Creature.{Creature}
 use Rattle.tierra_model.specs.Counting.{one_if, sum_of, times_in}
 use Rattle.tierra_model.specs.Ranges.{AreEfforts, IsBlock, IsCode}
@@ -46,7 +47,7 @@ saved_size genotypes saved q =
 
 -- what the counts of a world may come to
 abbrev pub count_limit : ℕ → ℕ
-count_limit quanta = 2 ^ 40 + 10000 * quanta
+count_limit quanta = 2 ^ 40 + MOST_SLICE * quanta
 
 -- each is above the one before it, and the first is not below k
 abbrev pub Ordered : ℕ → List ℕ → Type 0
@@ -75,7 +76,7 @@ pub record IsSound (w : World) : Type 0 where
   pub births : w.births < w.next_birth
   pub genotype_count : length w.genotypes < w.next_birth
   pub living_and_dead : length w.living + w.deaths + 1 ≡ w.next_birth
-  pub quanta : w.quanta ≤ 4000000
+  pub quanta : w.quanta ≤ MOST_QUANTA
   pub next_birth : w.next_birth ≤ count_limit w.quanta
   pub small : All (λ c. (c.errors ≤ count_limit w.quanta) × (c.moved ≤ count_limit w.quanta) × (c.ran ≤ count_limit w.quanta) × (c.bred ≤ count_limit w.quanta)) w.living
   -- the genotypes: no two have the same code

@@ -6,7 +6,9 @@ mod creatures;
 mod events;
 mod genebank;
 mod history;
+mod keys;
 mod laws;
+mod limits;
 mod lists;
 mod ops;
 mod parameters;
@@ -18,10 +20,19 @@ pub use creatures::{Block, Creature, Effort, Standing};
 pub use events::{Act, Event};
 pub use genebank::{Form, Group, Groups, Name, Saved, SavedList};
 pub use history::{Entry, How, Stale};
+pub use keys::{
+    BACK_RATE, COPY_RATE, DIST_EVERY, DIST_PERCENT, FILL_PERCENT, FLAW_RATE, MAL_MULT, MAX_CELL,
+    MIN_CELL, MIN_TEMPLATE, MOVE_PERCENT, Number, SAVE_AT, SEARCH_LIMIT, SEED, SLICE_BY_SIZE,
+    SLICE_DEN, SLICE_NUM, SLICE_SIZE, SOUP_SIZE,
+};
 pub use laws::{
     ahead_is_sound, bank_in_range, bank_is_groups, difference_tells, disturbance_counts_living,
     finding_stands, first_fit_is_least, law_of_findings, least_place, nearest_is_found,
     quantum_is_sound, scene_alone, serial_is_sound, yards_are_safe,
+};
+pub use limits::{
+    COUNT_END, MOST_CELLS, MOST_EPOCHS, MOST_ISLES, MOST_LOOKS, MOST_QUANTA, MOST_SIZE, MOST_SLICE,
+    MOST_WORKERS,
 };
 pub use lists::{Code, EventList, FreeList, Text, Yard};
 pub use ops::Op;

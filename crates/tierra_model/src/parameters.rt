@@ -1,6 +1,7 @@
 //! What can be set for a world.
 
 ghost use Rattle.std.specs.Prelude.{ℕ, ◌≤◌};
+ghost use Rattle.tierra_model.specs.declared.keys.TheConstants.{SOUP_SIZE, SLICE_SIZE, SLICE_NUM, SLICE_DEN, SEARCH_LIMIT, MIN_TEMPLATE, MIN_CELL, MAX_CELL, MAL_MULT, FILL_PERCENT, MOVE_PERCENT, SAVE_AT, DIST_EVERY, DIST_PERCENT};
 
 /// The settings of a world, each in its range, which the type keeps.
 #[derive(Clone, Copy, Drop, PartialEq, Eq, Debug)]
@@ -40,15 +41,15 @@ pub struct Settings {
     pub dist_every: u32,
     /// The part of the living that a disturbance kills, in percent, rounded down; never the creature that runs.
     pub dist_percent: u32,
-    pub ghost soup: { (100 ≤ soup_size) × (soup_size ≤ 1048576) },
-    pub ghost slice: { (1 ≤ slice_size) × (slice_size ≤ 10000) },
-    pub ghost by_size: { (1 ≤ slice_num) × (slice_num ≤ 100) × (1 ≤ slice_den) × (slice_den ≤ 100) },
-    pub ghost search: { (1 ≤ search_limit) × (search_limit ≤ 1048576) },
-    pub ghost template: { (1 ≤ min_template) × (min_template ≤ 10) },
-    pub ghost cells: { (1 ≤ min_cell) × (min_cell ≤ max_cell) × (max_cell ≤ 20000) },
-    pub ghost mult: { (1 ≤ mal_mult) × (mal_mult ≤ 100) },
-    pub ghost fill: { (1 ≤ fill_percent) × (fill_percent ≤ 100) },
-    pub ghost moving: { move_percent ≤ 100 },
-    pub ghost saving: { (1 ≤ save_at) × (save_at ≤ 1000000) },
-    pub ghost disturbing: { (dist_every ≤ 4000000) × (dist_percent ≤ 100) },
+    pub ghost soup: { (SOUP_SIZE.least ≤ soup_size) × (soup_size ≤ SOUP_SIZE.greatest) },
+    pub ghost slice: { (SLICE_SIZE.least ≤ slice_size) × (slice_size ≤ SLICE_SIZE.greatest) },
+    pub ghost by_size: { (SLICE_NUM.least ≤ slice_num) × (slice_num ≤ SLICE_NUM.greatest) × (SLICE_DEN.least ≤ slice_den) × (slice_den ≤ SLICE_DEN.greatest) },
+    pub ghost search: { (SEARCH_LIMIT.least ≤ search_limit) × (search_limit ≤ SEARCH_LIMIT.greatest) },
+    pub ghost template: { (MIN_TEMPLATE.least ≤ min_template) × (min_template ≤ MIN_TEMPLATE.greatest) },
+    pub ghost cells: { (MIN_CELL.least ≤ min_cell) × (min_cell ≤ max_cell) × (max_cell ≤ MAX_CELL.greatest) },
+    pub ghost mult: { (MAL_MULT.least ≤ mal_mult) × (mal_mult ≤ MAL_MULT.greatest) },
+    pub ghost fill: { (FILL_PERCENT.least ≤ fill_percent) × (fill_percent ≤ FILL_PERCENT.greatest) },
+    pub ghost moving: { move_percent ≤ MOVE_PERCENT.greatest },
+    pub ghost saving: { (SAVE_AT.least ≤ save_at) × (save_at ≤ SAVE_AT.greatest) },
+    pub ghost disturbing: { (dist_every ≤ DIST_EVERY.greatest) × (dist_percent ≤ DIST_PERCENT.greatest) },
 }

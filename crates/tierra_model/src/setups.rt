@@ -5,6 +5,11 @@ ghost use Rattle.tierra_model.specs.Ranges.{IsCode};
 ghost use Rattle.tierra_model.specs.Setups.{setup_for, default_settings};
 
 use crate::OutOfMemory;
+use crate::keys::{
+    BACK_RATE, COPY_RATE, DIST_EVERY, DIST_PERCENT, FILL_PERCENT, FLAW_RATE, MAL_MULT, MAX_CELL,
+    MIN_CELL, MIN_TEMPLATE, MOVE_PERCENT, SAVE_AT, SEARCH_LIMIT, SEED, SLICE_BY_SIZE, SLICE_DEN,
+    SLICE_NUM, SLICE_SIZE, SOUP_SIZE,
+};
 use crate::lists::Code;
 use crate::parameters::Settings;
 use std::alloc::Global;
@@ -54,25 +59,25 @@ pub fn defaults() -> Settings
     ensures { result ≡ default_settings }
 {
     Settings {
-        soup_size: 60000,
-        slice_size: 25,
-        slice_by_size: false,
-        slice_num: 1,
-        slice_den: 4,
-        search_limit: 400,
-        min_template: 1,
-        min_cell: 12,
-        max_cell: 20000,
-        mal_mult: 3,
-        fill_percent: 80,
-        move_percent: 70,
-        save_at: 2,
-        back_rate: 0,
-        copy_rate: 0,
-        flaw_rate: 0,
-        seed: [0; 32],
-        dist_every: 0,
-        dist_percent: 10,
+        soup_size: SOUP_SIZE.default,
+        slice_size: SLICE_SIZE.default,
+        slice_by_size: SLICE_BY_SIZE,
+        slice_num: SLICE_NUM.default,
+        slice_den: SLICE_DEN.default,
+        search_limit: SEARCH_LIMIT.default,
+        min_template: MIN_TEMPLATE.default,
+        min_cell: MIN_CELL.default,
+        max_cell: MAX_CELL.default,
+        mal_mult: MAL_MULT.default,
+        fill_percent: FILL_PERCENT.default,
+        move_percent: MOVE_PERCENT.default,
+        save_at: SAVE_AT.default,
+        back_rate: BACK_RATE.default,
+        copy_rate: COPY_RATE.default,
+        flaw_rate: FLAW_RATE.default,
+        seed: SEED,
+        dist_every: DIST_EVERY.default,
+        dist_percent: DIST_PERCENT.default,
     }
 }
 
