@@ -4,13 +4,14 @@
 #![tactic(auto)]
 
 ghost use Rattle.std.specs.Prelude.{◌≡◌, ◌<◌, ◌≤◌, pos};
+ghost use Rattle.tierra_model.specs.declared.limits.TheConstants.{MOST_CELLS};
 ghost use Rattle.tierra_model.specs.Ring.{address, minus, plus, times};
 
 /// The cell that a register's value names in a soup of `n` cells: the value modulo `n`, never negative.
 #[tactic(auto, unfolding(tierra_model::specs::Ring::address))]
 pub fn addr(v: i32, n: u32) -> u32
     requires some { 1 ≤ n }
-    requires most { n ≤ 1048576 }
+    requires most { n ≤ MOST_CELLS }
     ensures value { result ≡ address v n }
     ensures below { result < n }
 {

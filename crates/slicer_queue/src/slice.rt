@@ -3,10 +3,7 @@
 ghost use Rattle.std.specs.Prelude.{◌≡◌, ◌≤◌};
 ghost use Rattle.tierra_model.specs.Quantum as quantum;
 
-use tierra_model::Settings;
-
-/// The longest slice that goes by size.
-const LONGEST: u64 = 10_000;
+use tierra_model::{MOST_SLICE, Settings};
 
 /// How many instructions a creature whose own block has `size` cells runs in a quantum.
 pub fn slice_of(size: u32, settings: &Settings) -> u32
@@ -16,7 +13,7 @@ pub fn slice_of(size: u32, settings: &Settings) -> u32
         return settings.slice_size;
     }
     let slice = u64::from(size) * u64::from(settings.slice_num) / u64::from(settings.slice_den);
-    slice.max(1).min(LONGEST) as u32
+    slice.max(1).min(u64::from(MOST_SLICE)) as u32
 }
 
 #[cfg(test)]
