@@ -5,3 +5,4 @@ mod Apart
 mod InOrder
 mod WholeFile
 pub mod OneSetup
+mod Grown

@@ -1,7 +1,9 @@
 -- The settings of a soup file.
-use Rattle.std.specs.Prelude.{ℕ, ◌≡◌, Bool, false, List, [], ◌∷◌, if◌then◌else◌, nat_lt, Option, Some, None, Result, Ok, Err, replicate}
+use Rattle.std.specs.Prelude.{ℕ, ◌≡◌, Bool, List, [], ◌∷◌, if◌then◌else◌, nat_lt, Option, Some, None, Result, Ok, Err}
 use Rattle.std.specs.Result.{result_err}
 use Rattle.toml.specs.Data.{Members}
+use Rattle.tierra_model.specs.declared.keys.Number.{Number}
+use Rattle.tierra_model.specs.declared.keys.TheConstants.{SOUP_SIZE, SLICE_SIZE, SLICE_BY_SIZE, SLICE_NUM, SLICE_DEN, SEARCH_LIMIT, MIN_TEMPLATE, MIN_CELL, MAX_CELL, MAL_MULT, FILL_PERCENT, MOVE_PERCENT, SAVE_AT, BACK_RATE, COPY_RATE, FLAW_RATE, SEED, DIST_EVERY, DIST_PERCENT}
 use Rattle.tierra_model.specs.declared.parameters.Settings.{Settings}
 use Rattle.soup_file.specs.declared.key.Key.{Key}
 use Rattle.soup_file.specs.declared.key.Key.TheVariants.{SoupSize, SliceSize, SliceBySize, SliceNum, SliceDen, SearchLimit, MinTemplate, MinCell, MaxCell, MalMult, FillPercent, MovePercent, SaveAt, BackRate, CopyRate, FlawRate, Seed, DistEvery, DistPercent}
@@ -9,66 +11,66 @@ use Rattle.soup_file.specs.declared.key.KeyFault.{KeyFault}
 use Rattle.soup_file.specs.declared.key.KeyFault.TheVariants.{OutOfRange}
 use Rattle.soup_file.specs.Keys.{bytes_in, flag_in, number_in, read_at}
 
--- the number at a key: its least, its greatest and its default
-abbrev pub number_of : Key → ℕ → ℕ → ℕ → Members → Result ℕ KeyFault
-number_of key low high default document = read_at key (number_in key low high) (Ok default) document
+-- the number at a key, in its range, or its default
+abbrev pub number_of : Key → Number → Members → Result ℕ KeyFault
+number_of key n document = read_at key (number_in key n.least n.greatest) (Ok n.default) document
 
 abbrev pub soup_size_of : Members → Result ℕ KeyFault
-soup_size_of = number_of SoupSize 100 1048576 60000
+soup_size_of = number_of SoupSize SOUP_SIZE
 
 abbrev pub slice_size_of : Members → Result ℕ KeyFault
-slice_size_of = number_of SliceSize 1 10000 25
+slice_size_of = number_of SliceSize SLICE_SIZE
 
 abbrev pub slice_by_size_of : Members → Result Bool KeyFault
-slice_by_size_of document = read_at SliceBySize (flag_in SliceBySize) (Ok false) document
+slice_by_size_of document = read_at SliceBySize (flag_in SliceBySize) (Ok SLICE_BY_SIZE) document
 
 abbrev pub slice_num_of : Members → Result ℕ KeyFault
-slice_num_of = number_of SliceNum 1 100 1
+slice_num_of = number_of SliceNum SLICE_NUM
 
 abbrev pub slice_den_of : Members → Result ℕ KeyFault
-slice_den_of = number_of SliceDen 1 100 4
+slice_den_of = number_of SliceDen SLICE_DEN
 
 abbrev pub search_limit_of : Members → Result ℕ KeyFault
-search_limit_of = number_of SearchLimit 1 1048576 400
+search_limit_of = number_of SearchLimit SEARCH_LIMIT
 
 abbrev pub min_template_of : Members → Result ℕ KeyFault
-min_template_of = number_of MinTemplate 1 10 1
+min_template_of = number_of MinTemplate MIN_TEMPLATE
 
 abbrev pub min_cell_of : Members → Result ℕ KeyFault
-min_cell_of = number_of MinCell 1 20000 12
+min_cell_of = number_of MinCell MIN_CELL
 
 abbrev pub max_cell_of : Members → Result ℕ KeyFault
-max_cell_of = number_of MaxCell 1 20000 20000
+max_cell_of = number_of MaxCell MAX_CELL
 
 abbrev pub mal_mult_of : Members → Result ℕ KeyFault
-mal_mult_of = number_of MalMult 1 100 3
+mal_mult_of = number_of MalMult MAL_MULT
 
 abbrev pub fill_percent_of : Members → Result ℕ KeyFault
-fill_percent_of = number_of FillPercent 1 100 80
+fill_percent_of = number_of FillPercent FILL_PERCENT
 
 abbrev pub move_percent_of : Members → Result ℕ KeyFault
-move_percent_of = number_of MovePercent 0 100 70
+move_percent_of = number_of MovePercent MOVE_PERCENT
 
 abbrev pub save_at_of : Members → Result ℕ KeyFault
-save_at_of = number_of SaveAt 1 1000000 2
+save_at_of = number_of SaveAt SAVE_AT
 
 abbrev pub back_rate_of : Members → Result ℕ KeyFault
-back_rate_of = number_of BackRate 0 4294967295 0
+back_rate_of = number_of BackRate BACK_RATE
 
 abbrev pub copy_rate_of : Members → Result ℕ KeyFault
-copy_rate_of = number_of CopyRate 0 4294967295 0
+copy_rate_of = number_of CopyRate COPY_RATE
 
 abbrev pub flaw_rate_of : Members → Result ℕ KeyFault
-flaw_rate_of = number_of FlawRate 0 4294967295 0
+flaw_rate_of = number_of FlawRate FLAW_RATE
 
 abbrev pub seed_of : Members → Result (List ℕ) KeyFault
-seed_of document = read_at Seed (bytes_in Seed) (Ok (replicate 32 0)) document
+seed_of document = read_at Seed (bytes_in Seed) (Ok SEED) document
 
 abbrev pub dist_every_of : Members → Result ℕ KeyFault
-dist_every_of = number_of DistEvery 0 4000000 0
+dist_every_of = number_of DistEvery DIST_EVERY
 
 abbrev pub dist_percent_of : Members → Result ℕ KeyFault
-dist_percent_of = number_of DistPercent 0 100 10
+dist_percent_of = number_of DistPercent DIST_PERCENT
 
 -- the greatest number of cells is below the least
 abbrev pub crossed : Result ℕ KeyFault → Result ℕ KeyFault → Option KeyFault

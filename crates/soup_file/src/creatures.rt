@@ -2,6 +2,7 @@
 
 ghost use Rattle.std.specs.Prelude.{◌≡◌, ◌⊎◌, ◌+◌, ◌<◌, ◌≤◌, ◌∷◌, ◌++◌, [], IfErr, IfOk, None, OnOk, Err, Ok, Some, length, map, position};
 ghost use Rattle.toml.specs.View.{array_view, table_view};
+ghost use Rattle.tierra_model.specs.declared.limits.TheConstants.{MOST_CELLS};
 ghost use Rattle.tierra_model.specs.Ranges.{IsCode};
 ghost use Rattle.soup_file.specs.Keys.{file_fault, first_fault};
 ghost use Rattle.soup_file.specs.Creatures.{LieApart, all_creature_checks, code_of, creature_checks, creature_tables, inocula_of, inoculum_of, own_checks, place_of, share_a_cell, tables_of};
@@ -21,8 +22,10 @@ pub(crate) fn creature_tables<'a>(
     alloc: Global,
     document: &'a Table,
 ) -> Result<Vec<&'a Table>, FileFault>
-    ensures tables { IfOk result (λ tables. creature_tables (table_view document.now) ≡ Ok (map (λ t. table_view t.now) tables.items)) }
-    ensures fault { IfErr result (λ fault. (fault ≡ FileFault.OutOfMemory) ⊎ (creature_tables (table_view document.now) ≡ Err fault)) }
+    ensures tables { IfOk result (λ tables. creature_tables (table_view document.now)
+        ≡ Ok (map (λ t. table_view t.now) tables.items)) }
+    ensures fault { IfErr result (λ fault. (fault ≡ FileFault.OutOfMemory)
+        ⊎ (creature_tables (table_view document.now) ≡ Err fault)) }
 {
     let Some(value) = look_up(document, Key::Creature) else {
         return Err(FileFault::NoCreature);
@@ -38,8 +41,10 @@ pub(crate) fn creature_tables<'a>(
 }
 
 fn tables_of<'a>(alloc: Global, items: &'a Array) -> Result<Vec<&'a Table>, FileFault>
-    ensures tables { IfOk result (λ tables. tables_of (array_view items.now) ≡ Some (map (λ t. table_view t.now) tables.items)) }
-    ensures fault { IfErr result (λ fault. (fault ≡ FileFault.OutOfMemory) ⊎ ((tables_of (array_view items.now) ≡ None) × (fault ≡ file_fault (KeyFault.WrongKind Key.Creature)))) }
+    ensures tables { IfOk result (λ tables. tables_of (array_view items.now)
+        ≡ Some (map (λ t. table_view t.now) tables.items)) }
+    ensures fault { IfErr result (λ fault. (fault ≡ FileFault.OutOfMemory)
+        ⊎ ((tables_of (array_view items.now) ≡ None) × (fault ≡ file_fault (KeyFault.WrongKind Key.Creature)))) }
 {
     let mut tables = Vec::with_capacity(alloc, items.len())?;
     for item in items {
@@ -57,11 +62,14 @@ pub(crate) fn read_creatures(
     tables: &[&Table],
     soup_size: u32,
 ) -> Result<SeedList, FileFault>
-    requires { (1 ≤ soup_size) × (soup_size ≤ 1048576) }
-    ensures creatures { IfOk result (λ creatures. map Some creatures ≡ inocula_of soup_size (map (λ t. table_view t.now) tables.now)) }
-    ensures passed { IfOk result (λ creatures. first_fault (all_creature_checks soup_size (map (λ t. table_view t.now) tables.now)) ≡ None) }
+    requires { (1 ≤ soup_size) × (soup_size ≤ MOST_CELLS) }
+    ensures creatures { IfOk result (λ creatures. map Some creatures
+        ≡ inocula_of soup_size (map (λ t. table_view t.now) tables.now)) }
+    ensures passed { IfOk result (λ creatures.
+        first_fault (all_creature_checks soup_size (map (λ t. table_view t.now) tables.now)) ≡ None) }
     ensures apart { IfOk result (LieApart soup_size) }
-    ensures fault { IfErr result (λ fault. (fault ≡ FileFault.OutOfMemory) ⊎ (first_fault (all_creature_checks soup_size (map (λ t. table_view t.now) tables.now)) ≡ Some fault)) }
+    ensures fault { IfErr result (λ fault. (fault ≡ FileFault.OutOfMemory)
+        ⊎ (first_fault (all_creature_checks soup_size (map (λ t. table_view t.now) tables.now)) ≡ Some fault)) }
 {
     let mut items = Vec::with_capacity(alloc, tables.len())?;
     for table in tables {
@@ -77,12 +85,16 @@ fn add_creature(
     table: &Table,
     soup_size: u32,
 ) -> Result<(), FileFault>
-    requires size { (1 ≤ soup_size) × (soup_size ≤ 1048576) }
+    requires size { (1 ≤ soup_size) × (soup_size ≤ MOST_CELLS) }
     requires apart { LieApart soup_size creatures.old.items }
-    ensures added { OnOk result ((c : Inoculum) × (creatures.new.items ≡ creatures.old.items ++ c ∷ []) × (inoculum_of soup_size (length creatures.old.items + 1, table_view table.now) ≡ Some c)) }
+    ensures added { OnOk result ((c : Inoculum) × (creatures.new.items ≡ creatures.old.items ++ c ∷ [])
+        × (inoculum_of soup_size (length creatures.old.items + 1, table_view table.now) ≡ Some c)) }
     ensures apart { OnOk result (LieApart soup_size creatures.new.items) }
-    ensures passed { OnOk result (first_fault (creature_checks soup_size (map Some creatures.old.items) (length creatures.old.items + 1, table_view table.now)) ≡ None) }
-    ensures fault { IfErr result (λ fault. (fault ≡ FileFault.OutOfMemory) ⊎ (first_fault (creature_checks soup_size (map Some creatures.old.items) (length creatures.old.items + 1, table_view table.now)) ≡ Some fault)) }
+    ensures passed { OnOk result (first_fault (creature_checks soup_size (map Some creatures.old.items)
+        (length creatures.old.items + 1, table_view table.now)) ≡ None) }
+    ensures fault { IfErr result (λ fault. (fault ≡ FileFault.OutOfMemory)
+        ⊎ (first_fault (creature_checks soup_size (map Some creatures.old.items)
+        (length creatures.old.items + 1, table_view table.now)) ≡ Some fault)) }
 {
     let number = creatures.len() as u32 + 1;
     let creature = read_creature(alloc, number, table, soup_size)?;
@@ -109,7 +121,8 @@ fn read_creature(
     ensures code { IfOk result (λ c. IsCode c.code) }
     ensures placed { IfOk result (λ c. c.at + length c.code ≤ soup_size) }
     ensures passed { IfOk result (λ c. first_fault (own_checks soup_size (number, table_view table.now)) ≡ None) }
-    ensures fault { IfErr result (λ fault. (fault ≡ FileFault.OutOfMemory) ⊎ (first_fault (own_checks soup_size (number, table_view table.now)) ≡ Some fault)) }
+    ensures fault { IfErr result (λ fault. (fault ≡ FileFault.OutOfMemory)
+        ⊎ (first_fault (own_checks soup_size (number, table_view table.now)) ≡ Some fault)) }
 {
     check_keys(alloc, table, "creature.", &[Key::At, Key::Code])?;
     let at = read_place(alloc, table, soup_size)?;
@@ -124,7 +137,8 @@ fn read_creature(
 fn read_place(alloc: Global, table: &Table, soup_size: u32) -> Result<u32, FileFault>
     requires { 1 ≤ soup_size }
     ensures place { IfOk result (λ at. place_of soup_size (table_view table.now) ≡ Ok at) }
-    ensures fault { IfErr result (λ fault. (fault ≡ FileFault.OutOfMemory) ⊎ ((f : KeyFault) × (place_of soup_size (table_view table.now) ≡ Err f) × (fault ≡ file_fault f))) }
+    ensures fault { IfErr result (λ fault. (fault ≡ FileFault.OutOfMemory)
+        ⊎ ((f : KeyFault) × (place_of soup_size (table_view table.now) ≡ Err f) × (fault ≡ file_fault f))) }
 {
     match required_number_at(table, Key::At, 0, soup_size - 1) {
         Ok(at) => Ok(at),
@@ -136,7 +150,8 @@ fn read_place(alloc: Global, table: &Table, soup_size: u32) -> Result<u32, FileF
 fn read_code(alloc: Global, number: u32, table: &Table) -> Result<Code, FileFault>
     ensures code { IfOk result (λ code. code_of number (table_view table.now) ≡ Ok code) }
     ensures range { IfOk result IsCode }
-    ensures fault { IfErr result (λ fault. (fault ≡ FileFault.OutOfMemory) ⊎ (code_of number (table_view table.now) ≡ Err fault)) }
+    ensures fault { IfErr result (λ fault. (fault ≡ FileFault.OutOfMemory)
+        ⊎ (code_of number (table_view table.now) ≡ Err fault)) }
 {
     let text = match text_at(table, Key::Code) {
         Ok(text) => text,

@@ -1,8 +1,13 @@
 //! Laws of the definitions: functions that do nothing, each with its law as its contract.
 
-ghost use Rattle.soup_file.specs.Laws.{SoupFilesAreClear};
+ghost use Rattle.soup_file.specs.Laws.{OneCreatureIsGrown, SoupFilesAreClear};
 
 /// Does nothing: its contract is the law that bytes tell one setup or have one fault, and not both.
 pub fn soup_files_are_clear()
     ensures { SoupFilesAreClear }
+{}
+
+/// Does nothing: its contract is the law that one creature at 0 and nothing else is the setup that `grow` makes.
+pub fn one_creature_is_grown()
+    ensures { OneCreatureIsGrown }
 {}

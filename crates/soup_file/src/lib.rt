@@ -10,7 +10,7 @@ mod settings;
 mod value;
 
 pub use fault::FileFault;
-pub use laws::soup_files_are_clear;
+pub use laws::{one_creature_is_grown, soup_files_are_clear};
 pub use reading::read_setup;
 
 #[cfg(test)]

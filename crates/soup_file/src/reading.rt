@@ -54,7 +54,8 @@ pub fn read_setup(alloc: Global, bytes: &[u8]) -> Result<Setup, FileFault>
 
 fn read_document(alloc: Global, bytes: &[u8]) -> Result<Table, FileFault>
     ensures document { IfOk result (λ t. IsDocument bytes.now (table_view t)) }
-    ensures fault { IfErr result (λ fault. (fault ≡ FileFault.OutOfMemory) ⊎ ((fault ≡ FileFault.NotToml) × (IsUtf8 bytes.now → parse_document bytes.now ≡ None))) }
+    ensures fault { IfErr result (λ fault. (fault ≡ FileFault.OutOfMemory)
+        ⊎ ((fault ≡ FileFault.NotToml) × (IsUtf8 bytes.now → parse_document bytes.now ≡ None))) }
 {
     match toml::table_from_slice(alloc, bytes) {
         Ok(document) => Ok(document),
@@ -71,7 +72,8 @@ fn read_document(alloc: Global, bytes: &[u8]) -> Result<Table, FileFault>
 #[tactic(auto, unfolding(crate::specs::SoupFile::checks_of))]
 fn setup_of(alloc: Global, document: &Table) -> Result<Setup, FileFault>
     ensures setup { IfOk result (λ setup. IsSetupOf (table_view document.now) setup) }
-    ensures fault { IfErr result (λ fault. (fault ≡ FileFault.OutOfMemory) ⊎ (first_fault (checks_of (table_view document.now)) ≡ Some fault)) }
+    ensures fault { IfErr result (λ fault. (fault ≡ FileFault.OutOfMemory)
+        ⊎ (first_fault (checks_of (table_view document.now)) ≡ Some fault)) }
 {
     check_keys(alloc, document, "", &KEYS)?;
     let settings = match read_settings(document) {

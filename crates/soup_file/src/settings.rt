@@ -7,7 +7,11 @@ ghost use Rattle.soup_file.specs.Settings.{AreSettingsOf, setting_checks};
 
 use crate::key::{Key, KeyFault};
 use crate::value::{bytes_at, flag_at, number_at};
-use tierra_model::Settings;
+use tierra_model::{
+    BACK_RATE, COPY_RATE, DIST_EVERY, DIST_PERCENT, FILL_PERCENT, FLAW_RATE, MAL_MULT, MAX_CELL,
+    MIN_CELL, MIN_TEMPLATE, MOVE_PERCENT, SAVE_AT, SEARCH_LIMIT, SEED, SLICE_BY_SIZE, SLICE_DEN,
+    SLICE_NUM, SLICE_SIZE, SOUP_SIZE, Settings,
+};
 use toml::Table;
 
 /// The settings of a document, which stand at its keys or have their defaults.
@@ -17,25 +21,25 @@ pub(crate) fn read_settings(document: &Table) -> Result<Settings, KeyFault>
     ensures passed { IfOk result (λ settings. first_fault (setting_checks (table_view document.now)) ≡ None) }
     ensures fault { IfErr result (λ fault. first_fault (setting_checks (table_view document.now)) ≡ Some fault) }
 {
-    let soup_size = number_at(document, Key::SoupSize, 100, 1_048_576, 60_000)?;
-    let slice_size = number_at(document, Key::SliceSize, 1, 10_000, 25)?;
-    let slice_by_size = flag_at(document, Key::SliceBySize, false)?;
-    let slice_num = number_at(document, Key::SliceNum, 1, 100, 1)?;
-    let slice_den = number_at(document, Key::SliceDen, 1, 100, 4)?;
-    let search_limit = number_at(document, Key::SearchLimit, 1, 1_048_576, 400)?;
-    let min_template = number_at(document, Key::MinTemplate, 1, 10, 1)?;
-    let min_cell = number_at(document, Key::MinCell, 1, 20_000, 12)?;
-    let max_cell = number_at(document, Key::MaxCell, 1, 20_000, 20_000)?;
-    let mal_mult = number_at(document, Key::MalMult, 1, 100, 3)?;
-    let fill_percent = number_at(document, Key::FillPercent, 1, 100, 80)?;
-    let move_percent = number_at(document, Key::MovePercent, 0, 100, 70)?;
-    let save_at = number_at(document, Key::SaveAt, 1, 1_000_000, 2)?;
-    let back_rate = number_at(document, Key::BackRate, 0, u32::MAX, 0)?;
-    let copy_rate = number_at(document, Key::CopyRate, 0, u32::MAX, 0)?;
-    let flaw_rate = number_at(document, Key::FlawRate, 0, u32::MAX, 0)?;
-    let seed = bytes_at(document, Key::Seed, [0; 32])?;
-    let dist_every = number_at(document, Key::DistEvery, 0, 4_000_000, 0)?;
-    let dist_percent = number_at(document, Key::DistPercent, 0, 100, 10)?;
+    let soup_size = number_at(document, Key::SoupSize, SOUP_SIZE)?;
+    let slice_size = number_at(document, Key::SliceSize, SLICE_SIZE)?;
+    let slice_by_size = flag_at(document, Key::SliceBySize, SLICE_BY_SIZE)?;
+    let slice_num = number_at(document, Key::SliceNum, SLICE_NUM)?;
+    let slice_den = number_at(document, Key::SliceDen, SLICE_DEN)?;
+    let search_limit = number_at(document, Key::SearchLimit, SEARCH_LIMIT)?;
+    let min_template = number_at(document, Key::MinTemplate, MIN_TEMPLATE)?;
+    let min_cell = number_at(document, Key::MinCell, MIN_CELL)?;
+    let max_cell = number_at(document, Key::MaxCell, MAX_CELL)?;
+    let mal_mult = number_at(document, Key::MalMult, MAL_MULT)?;
+    let fill_percent = number_at(document, Key::FillPercent, FILL_PERCENT)?;
+    let move_percent = number_at(document, Key::MovePercent, MOVE_PERCENT)?;
+    let save_at = number_at(document, Key::SaveAt, SAVE_AT)?;
+    let back_rate = number_at(document, Key::BackRate, BACK_RATE)?;
+    let copy_rate = number_at(document, Key::CopyRate, COPY_RATE)?;
+    let flaw_rate = number_at(document, Key::FlawRate, FLAW_RATE)?;
+    let seed = bytes_at(document, Key::Seed, SEED)?;
+    let dist_every = number_at(document, Key::DistEvery, DIST_EVERY)?;
+    let dist_percent = number_at(document, Key::DistPercent, DIST_PERCENT)?;
     if max_cell < min_cell {
         return Err(KeyFault::OutOfRange(Key::MaxCell));
     }

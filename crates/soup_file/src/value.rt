@@ -11,6 +11,7 @@ use crate::fault::FileFault;
 use crate::key::{Key, KeyFault, joined};
 use hex::FromHex;
 use std::alloc::Global;
+use tierra_model::Number;
 use toml::{Table, Value};
 
 /// The value at a key.
@@ -20,22 +21,17 @@ pub(crate) fn look_up<'a>(table: &'a Table, key: Key) -> Option<&'a Value>
     table.get(key.name())
 }
 
-/// The number in its range that stands at a key, or the default.
+/// The number in its range that stands at a key, or its default.
 #[tactic(auto, unfolding(crate::specs::Keys::read_at))]
-pub(crate) fn number_at(
-    table: &Table,
-    key: Key,
-    low: u32,
-    high: u32,
-    default: u32,
-) -> Result<u32, KeyFault>
-    requires { (low ≤ default) × (default ≤ high) }
-    ensures value { result ≡ read_at key (number_in key low high) (Ok default) (table_view table.now) }
-    ensures range { IfOk result (λ n. (low ≤ n) × (n ≤ high)) }
+pub(crate) fn number_at(table: &Table, key: Key, number: Number) -> Result<u32, KeyFault>
+    requires { (number.least ≤ number.default) × (number.default ≤ number.greatest) }
+    ensures value { result
+        ≡ read_at key (number_in key number.least number.greatest) (Ok number.default) (table_view table.now) }
+    ensures range { IfOk result (λ n. (number.least ≤ n) × (n ≤ number.greatest)) }
 {
     match look_up(table, key) {
-        None => Ok(default),
-        Some(value) => number_in(value, key, low, high),
+        None => Ok(number.default),
+        Some(value) => number_in(value, key, number.least, number.greatest),
     }
 }
 
@@ -115,8 +111,10 @@ fn bytes_in(value: &Value, key: Key) -> Result<[u8; 32], KeyFault>
 /// The text that must stand at a key.
 #[tactic(auto, unfolding(crate::specs::Keys::read_at))]
 pub(crate) fn text_at<'a>(table: &'a Table, key: Key) -> Result<&'a str, KeyFault>
-    ensures text { IfOk result (λ text. read_at key (text_in key) (Err (KeyFault.Missing key)) (table_view table.now) ≡ Ok text.now) }
-    ensures fault { IfErr result (λ fault. read_at key (text_in key) (Err (KeyFault.Missing key)) (table_view table.now) ≡ Err fault) }
+    ensures text { IfOk result (λ text.
+        read_at key (text_in key) (Err (KeyFault.Missing key)) (table_view table.now) ≡ Ok text.now) }
+    ensures fault { IfErr result (λ fault.
+        read_at key (text_in key) (Err (KeyFault.Missing key)) (table_view table.now) ≡ Err fault) }
 {
     match look_up(table, key) {
         None => Err(KeyFault::Missing(key)),
@@ -132,7 +130,8 @@ pub(crate) fn check_keys(
     known: &[Key],
 ) -> Result<(), FileFault>
     ensures passed { OnOk result (unknown_key before.now known.now (table_view table.now) ≡ None) }
-    ensures fault { IfErr result (λ fault. (fault ≡ FileFault.OutOfMemory) ⊎ (unknown_key before.now known.now (table_view table.now) ≡ Some fault)) }
+    ensures fault { IfErr result (λ fault. (fault ≡ FileFault.OutOfMemory)
+        ⊎ (unknown_key before.now known.now (table_view table.now) ≡ Some fault)) }
 {
     match unknown_in(table, known) {
         None => Ok(()),
@@ -143,7 +142,8 @@ pub(crate) fn check_keys(
 }
 
 fn unknown_in<'a>(table: &'a Table, known: &[Key]) -> Option<&'a String>
-    ensures first { option_copied result ≡ find (λ name. not (names_one_of known.now (string_bytes name))) (keys table.now) }
+    ensures first { option_copied result
+        ≡ find (λ name. not (names_one_of known.now (string_bytes name))) (keys table.now) }
     ensures ordered { IsStrictlySortedBy string_cmp (keys table.now) }
 {
     table
