@@ -6,11 +6,12 @@ use Rattle.tierra_asm.specs.Words.{PlacedWord, words_of}
 use Rattle.tierra_asm.specs.Values.{values_of}
 use Rattle.tierra_asm.specs.declared.AsmFault.{AsmFault}
 use Rattle.tierra_asm.specs.declared.AsmFault.TheVariants.{UnknownName, TooLong, Empty}
+use Rattle.tierra_model.specs.declared.limits.TheConstants.{MOST_SIZE}
 
 -- the code that a word names, by the number of the word in the text
 abbrev pub named_code : ℕ × PlacedWord → Result ℕ AsmFault
 named_code (number, word) =
-    if nat_lt 20000 number then Err (TooLong word.line)
+    if nat_lt MOST_SIZE number then Err (TooLong word.line)
     else ok_or (code_of word.bytes) (UnknownName word.line)
 
 -- the code of a listing, or its first fault

@@ -10,11 +10,8 @@ mod word_reader;
 
 use soup_ops::{by_name, code};
 use std::alloc::{AllocFailed, Global};
-use tierra_model::Code;
+use tierra_model::{Code, MOST_SIZE};
 pub use word_reader::{Word, Words};
-
-/// The most instructions that a code may have.
-pub const MOST_INSTRUCTIONS: usize = 20000;
 
 /// Why a listing has no code. Lines are counted from 1; one above 4,294,967,295 is given as that number.
 #[derive(Clone, Copy, Debug, Drop, PartialEq, Eq)]
@@ -48,7 +45,7 @@ pub fn assemble(alloc: Global, text: &str) -> Result<Code, AsmFault>
 {
     let mut items = Vec::new(alloc);
     for word in Words::of(text) {
-        if items.len() == MOST_INSTRUCTIONS {
+        if items.len() == MOST_SIZE as usize {
             return Err(AsmFault::TooLong { line: word.line });
         }
         let Some(op) = by_name(word.text) else {

@@ -6,6 +6,7 @@ use Rattle.std.specs.List.{concat, enumerate_from}
 use Rattle.std.proofs.lemmas.Bool.Decides.{nat_tests}
 use Rattle.std.proofs.lemmas.List.Elements.{All-head, All-tail}
 use Rattle.std.proofs.lemmas.Option.{slice_get-get_or}
+use Rattle.tierra_model.specs.declared.limits.TheConstants.{MOST_SIZE}
 use Rattle.tierra_model.specs.Table.{ops}
 use Rattle.tierra_model.specs.declared.ops.Op.TheVariants.{Nop0}
 use Rattle.soup_ops.specs.Names.{name_of, code_of}
@@ -27,8 +28,8 @@ record HasLines (place number line : ℕ) (code : List ℕ) : Type 0 where
 -- a name within the first 20,000 is read as its code
 named_code_is : (number line code : ℕ) (bytes : List ℕ) → number < 20001 → code_of bytes ≡ Some code → named_code (number, record { line = line; bytes = bytes }) ≡ Ok code
 named_code_is number line code bytes within is =
-    let few : nat_lt 20000 number ≡ false = grind (arith, nat_tests) in
-    ap (λ o. cond (nat_lt 20000 number) (Err (TooLong line)) (ok_or o (UnknownName line))) is
+    let few : nat_lt MOST_SIZE number ≡ false = grind (arith, nat_tests) in
+    ap (λ o. cond (nat_lt MOST_SIZE number) (Err (TooLong line)) (ok_or o (UnknownName line))) is
     ∙ ap (λ b. cond b (Err (TooLong line)) (Ok code)) few
 
 -- each code has lines, from any place on

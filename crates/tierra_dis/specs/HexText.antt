@@ -7,6 +7,7 @@ use Rattle.tierra_asm.specs.Words.{PlacedWord, words_of}
 use Rattle.tierra_asm.specs.Values.{values_of}
 use Rattle.tierra_dis.specs.declared.hex_text.HexFault.{HexFault}
 use Rattle.tierra_dis.specs.declared.hex_text.HexFault.TheVariants.{NotHex, TooLong, Empty}
+use Rattle.tierra_model.specs.declared.limits.TheConstants.{MOST_SIZE}
 
 -- the byte of two hexadecimal digits of either case
 abbrev pub byte_of : List ℕ → Option ℕ
@@ -18,7 +19,7 @@ byte_of _ = None
 -- the byte of a word, by the number of the word in the text
 abbrev pub byte_at : ℕ × PlacedWord → Result ℕ HexFault
 byte_at (number, word) =
-    if nat_lt 20000 number then Err TooLong
+    if nat_lt MOST_SIZE number then Err TooLong
     else ok_or (byte_of word.bytes) (NotHex number)
 
 -- the bytes of a hex text, or its first fault

@@ -3,6 +3,7 @@
 ghost use Rattle.std.specs.Prelude.{◌≡◌, ◌⊎◌, ◌≤◌, length, IfOk, IfErr};
 ghost use Rattle.tierra_dis.specs.Disassembly.{listing_text};
 ghost use Rattle.tierra_dis.specs.declared.disassembly.DisFault.TheVariants.{OutOfMemory};
+ghost use Rattle.tierra_model.specs.declared.limits.TheConstants.{MOST_SIZE};
 
 use soup_ops::{name, op_of};
 use std::alloc::{AllocError, AllocFailed, Global};
@@ -35,7 +36,7 @@ impl<T: Drop> From<AllocFailed<T>> for DisFault {
 
 /// The listing of a code: the name of each instruction on a line of its own.
 pub fn disassemble(alloc: Global, code: &[u8]) -> Result<Text, DisFault>
-    requires { length code.now ≤ 20000 }
+    requires { length code.now ≤ MOST_SIZE }
     ensures text { IfOk result (λ text. listing_text code.now ≡ Ok text) }
     ensures fault { IfErr result (λ fault. (fault ≡ DisFault.OutOfMemory) ⊎ (listing_text code.now ≡ Err fault)) }
 {

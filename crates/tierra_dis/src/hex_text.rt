@@ -7,8 +7,8 @@ ghost use Rattle.tierra_dis.specs.declared.hex_text.HexFault.TheVariants.{OutOfM
 
 use std::alloc::{AllocFailed, Global};
 use thiserror::Error;
-use tierra_asm::{MOST_INSTRUCTIONS, Words};
-use tierra_model::{Code, OutOfMemory, Text};
+use tierra_asm::Words;
+use tierra_model::{Code, MOST_SIZE, OutOfMemory, Text};
 
 /// Why a hex text has no bytes.
 #[derive(Clone, Copy, Debug, Drop, PartialEq, Eq, Error)]
@@ -40,11 +40,11 @@ pub fn read_hex(alloc: Global, text: &str) -> Result<Code, HexFault>
     ensures code { IfOk result (λ code. hex_of text.now ≡ Ok code) }
     ensures fault { IfErr result (λ fault. (fault ≡ HexFault.OutOfMemory) ⊎ (hex_of text.now ≡ Err fault)) }
     ensures some { IfOk result (λ code. 1 ≤ length code) }
-    ensures most { IfOk result (λ code. length code ≤ 20000) }
+    ensures most { IfOk result (λ code. length code ≤ MOST_SIZE) }
 {
     let mut items = Vec::new(alloc);
     for word in Words::of(text) {
-        if items.len() == MOST_INSTRUCTIONS {
+        if items.len() == MOST_SIZE as usize {
             return Err(HexFault::TooLong);
         }
         let Some(byte) = byte_of(word.text.as_bytes()) else {

@@ -3,6 +3,7 @@ use Rattle.tierra_asm.specs.Words.{words_of}
 use Rattle.tierra_asm.proofs.Reading.{IsRead}
 use Rattle.tierra_dis.specs.HexText.{byte_at}
 use Rattle.tierra_dis.proofs.hex_text.read_hex.Given as goal
+use Rattle.tierra_model.specs.declared.limits.TheConstants.{MOST_SIZE}
 
 abbrev pub invariant-loop-word : goal.invariant-loop-word
 invariant-loop-word l =
@@ -10,5 +11,5 @@ invariant-loop-word l =
       can : (goal.iterator-loop-word).can_next l.word-iterator;
       finite : (goal.iterator-loop-word).is_finite l.word-iterator;
       read : IsRead byte_at (words_of l.text) l.items.items l.word-iterator;
-      few : vec_len l.items ≤ 20000;
+      few : vec_len l.items ≤ MOST_SIZE;
     }
