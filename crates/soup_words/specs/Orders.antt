@@ -1,11 +1,12 @@
 -- What the words ask for.
-use Rattle.std.specs.Prelude.{ℕ, ◌≡◌, ◌≤◌, List, [], codes, option_and_then, Option, Some, None}
+use Rattle.std.specs.Prelude.{ℕ, ◌≡◌, ◌≤◌, ◌-◌, List, [], codes, option_and_then, Option, Some, None}
 use Rattle.std.specs.Fmt.{decimal}
 use Rattle.clap.specs.Faults.{fault_of}
 use Rattle.soup_words.specs.declared.order.Action.TheVariants.{Hold, Watch}
 use Rattle.soup_words.specs.declared.order.Order.{Order}
 use Rattle.soup_words.specs.Split.{given, tierra_app}
 use Rattle.soup_words.specs.Table.{Range, Row, action_named, row_of}
+use Rattle.tierra_model.specs.declared.limits.TheConstants.{MOST_EPOCHS, MOST_ISLES, MOST_LOOKS, MOST_QUANTA, MOST_WORKERS}
 
 -- the number that an option's text spells, in its range; without a text it is the default
 abbrev pub IsValue : Range → Option (List ℕ) → ℕ → ℕ → Type 0
@@ -27,14 +28,14 @@ pub record IsOrderOf (words : List (List ℕ)) (order : Order) : Type 0 where
 
 -- the numbers of an order of any action
 pub record IsInRange (order : Order) : Type 0 where
-  pub quanta : (1 ≤ order.quanta) × (order.quanta ≤ 4000000)
-  pub workers : (1 ≤ order.workers) × (order.workers ≤ 64)
-  pub watchers : order.action ≡ Watch → order.workers ≤ 63
+  pub quanta : (1 ≤ order.quanta) × (order.quanta ≤ MOST_QUANTA)
+  pub workers : (1 ≤ order.workers) × (order.workers ≤ MOST_WORKERS)
+  pub watchers : order.action ≡ Watch → order.workers ≤ MOST_WORKERS - 1
   pub number : order.number ≤ 18446744073709551615
-  pub every : (1 ≤ order.every) × (order.every ≤ 4000000)
-  pub looks : (1 ≤ order.looks) × (order.looks ≤ 1000)
-  pub isles : (1 ≤ order.isles) × (order.isles ≤ 64)
-  pub epochs : (1 ≤ order.epochs) × (order.epochs ≤ 1000)
+  pub every : (1 ≤ order.every) × (order.every ≤ MOST_QUANTA)
+  pub looks : (1 ≤ order.looks) × (order.looks ≤ MOST_LOOKS)
+  pub isles : (1 ≤ order.isles) × (order.isles ≤ MOST_ISLES)
+  pub epochs : (1 ≤ order.epochs) × (order.epochs ≤ MOST_EPOCHS)
 
 -- the words ask for a run that is held
 abbrev pub AskToHold : List (List ℕ) → Type 0

@@ -19,7 +19,8 @@ pub(crate) fn value_of(
     default: u64,
 ) -> Result<u64, WordsFault>
     ensures value { IfOk result (IsValue range (option_copied text.entry) default) }
-    ensures refused { IsErrOf result WordsFault.Refused → (n : ℕ) → IsValue range (option_copied text.entry) default n → ⊥ }
+    ensures refused { IsErrOf result WordsFault.Refused
+        → (n : ℕ) → IsValue range (option_copied text.entry) default n → ⊥ }
 {
     let Some(text) = text else {
         return Ok(default);
@@ -48,7 +49,8 @@ fn within(low: u64, high: u64, number: u64) -> Result<u64, WordsFault>
 
 /// The number that a text spells, without a sign or a leading zero.
 fn number_from(alloc: Global, text: &str) -> Result<Option<u64>, OutOfMemory>
-    ensures { IfOk result (λ found. MatchOption found ((n : ℕ) → n < 2 ^ 64 → text.now ≡ decimal n → ⊥) (λ n. (n < 2 ^ 64) × (text.now ≡ decimal n))) }
+    ensures { IfOk result (λ found. MatchOption found
+        ((n : ℕ) → n < 2 ^ 64 → text.now ≡ decimal n → ⊥) (λ n. (n < 2 ^ 64) × (text.now ≡ decimal n))) }
 {
     let Ok(number) = text.parse::<u64>() else {
         return Ok(None);

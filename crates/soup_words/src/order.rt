@@ -66,7 +66,8 @@ pub enum WordsFault {
 pub fn read_words(alloc: Global, words: &Vec<String>) -> Result<Order, WordsFault>
     ensures order { IfOk result (IsOrderOf (map string_bytes words.now.items)) }
     ensures in_range { IfOk result IsInRange }
-    ensures refused { IsErrOf result WordsFault.Refused → (order : Order) → IsOrderOf (map string_bytes words.now.items) order → ⊥ }
+    ensures refused { IsErrOf result WordsFault.Refused
+        → (order : Order) → IsOrderOf (map string_bytes words.now.items) order → ⊥ }
 {
     let split = match split_words(alloc, words.as_slice()) {
         Ok(split) => split,
@@ -94,7 +95,8 @@ pub fn read_words(alloc: Global, words: &Vec<String>) -> Result<Order, WordsFaul
 /// The file that the words' action keeps. Words that are refused have the genebank's.
 pub fn file_for(alloc: Global, words: &Vec<String>) -> Result<&'static str, OutOfMemory>
     ensures hold { IfOk result (λ name. AskToHold (map string_bytes words.now.items) → name.now ≡ codes "tierra.hold") }
-    ensures bank { IfOk result (λ name. (AskToHold (map string_bytes words.now.items) → ⊥) → name.now ≡ codes "tierra.bank") }
+    ensures bank { IfOk result (λ name. (AskToHold (map string_bytes words.now.items) → ⊥)
+        → name.now ≡ codes "tierra.bank") }
 {
     match read_words(alloc, words) {
         Ok(order) if order.action == Action::Hold => Ok("tierra.hold"),

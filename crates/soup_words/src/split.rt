@@ -26,14 +26,22 @@ pub(crate) struct Split<'a> {
 /// Splits the words: one action, and options with a value each, in any order.
 pub(crate) fn split_words<'a>(alloc: Global, words: &'a [String]) -> Result<Split<'a>, WordsFault>
     ensures taken { IfOk result (λ s. fault_of tierra_app (map string_bytes words.entry.now) ≡ []) }
-    ensures action { IfOk result (λ s. option_copied s.action ≡ given (map string_bytes words.entry.now) (codes "action")) }
-    ensures quanta { IfOk result (λ s. option_copied s.quanta ≡ given (map string_bytes words.entry.now) (codes "quanta")) }
-    ensures workers { IfOk result (λ s. option_copied s.workers ≡ given (map string_bytes words.entry.now) (codes "workers")) }
-    ensures number { IfOk result (λ s. option_copied s.number ≡ given (map string_bytes words.entry.now) (codes "number")) }
-    ensures every { IfOk result (λ s. option_copied s.every ≡ given (map string_bytes words.entry.now) (codes "every")) }
-    ensures looks { IfOk result (λ s. option_copied s.looks ≡ given (map string_bytes words.entry.now) (codes "looks")) }
-    ensures isles { IfOk result (λ s. option_copied s.isles ≡ given (map string_bytes words.entry.now) (codes "isles")) }
-    ensures epochs { IfOk result (λ s. option_copied s.epochs ≡ given (map string_bytes words.entry.now) (codes "epochs")) }
+    ensures action { IfOk result (λ s. option_copied s.action
+        ≡ given (map string_bytes words.entry.now) (codes "action")) }
+    ensures quanta { IfOk result (λ s. option_copied s.quanta
+        ≡ given (map string_bytes words.entry.now) (codes "quanta")) }
+    ensures workers { IfOk result (λ s. option_copied s.workers
+        ≡ given (map string_bytes words.entry.now) (codes "workers")) }
+    ensures number { IfOk result (λ s. option_copied s.number
+        ≡ given (map string_bytes words.entry.now) (codes "number")) }
+    ensures every { IfOk result (λ s. option_copied s.every
+        ≡ given (map string_bytes words.entry.now) (codes "every")) }
+    ensures looks { IfOk result (λ s. option_copied s.looks
+        ≡ given (map string_bytes words.entry.now) (codes "looks")) }
+    ensures isles { IfOk result (λ s. option_copied s.isles
+        ≡ given (map string_bytes words.entry.now) (codes "isles")) }
+    ensures epochs { IfOk result (λ s. option_copied s.epochs
+        ≡ given (map string_bytes words.entry.now) (codes "epochs")) }
     ensures refused { IsErrOf result WordsFault.Refused → fault_of tierra_app (map string_bytes words.entry.now) ≢ [] }
 {
     let command = match command(alloc) {

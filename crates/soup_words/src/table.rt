@@ -4,6 +4,7 @@ ghost use Rattle.std.specs.Prelude.{◌≡◌, None, Some};
 ghost use Rattle.soup_words.specs.Table.{Row as RowOf, action_named, plain_row, row_of, timed_row, to};
 
 use crate::order::Action;
+use tierra_model::{MOST_EPOCHS, MOST_ISLES, MOST_LOOKS, MOST_QUANTA, MOST_WORKERS};
 
 /// The least and the greatest number of an option, where the action has it.
 pub(crate) type Range = Option<(u64, u64)>;
@@ -50,11 +51,11 @@ pub(crate) fn row_of(action: Action) -> Row
 {
     match action {
         Action::Grow => Row {
-            workers: to(64),
+            workers: to(u64::from(MOST_WORKERS)),
             ..timed("grow")
         },
         Action::Run => Row {
-            workers: to(64),
+            workers: to(u64::from(MOST_WORKERS)),
             ..timed("run")
         },
         Action::Asm => plain("asm"),
@@ -66,26 +67,26 @@ pub(crate) fn row_of(action: Action) -> Row
         },
         Action::Dump => timed("dump"),
         Action::Hold => Row {
-            every: to(4_000_000),
+            every: to(MOST_QUANTA),
             ..timed("hold")
         },
         Action::Curve => Row {
-            every: to(4_000_000),
+            every: to(MOST_QUANTA),
             ..timed("curve")
         },
         Action::Probe => Row {
-            workers: to(64),
+            workers: to(u64::from(MOST_WORKERS)),
             ..timed("probe")
         },
         Action::Watch => Row {
-            workers: to(63),
-            looks: to(1000),
+            workers: to(u64::from(MOST_WORKERS) - 1),
+            looks: to(u64::from(MOST_LOOKS)),
             ..timed("watch")
         },
         Action::Isles => Row {
-            workers: to(64),
-            isles: to(64),
-            epochs: to(1000),
+            workers: to(u64::from(MOST_WORKERS)),
+            isles: to(u64::from(MOST_ISLES)),
+            epochs: to(u64::from(MOST_EPOCHS)),
             ..timed("isles")
         },
     }
@@ -123,7 +124,7 @@ fn plain(name: &'static str) -> Row
 /// An action that takes quanta.
 fn timed(name: &'static str) -> Row
     ensures name { result.name.now ≡ name.now }
-    ensures quanta { result.quanta ≡ to 4000000 }
+    ensures quanta { result.quanta ≡ to MOST_QUANTA }
     ensures workers { result.workers ≡ None }
     ensures number { result.number ≡ None }
     ensures every { result.every ≡ None }
@@ -132,7 +133,7 @@ fn timed(name: &'static str) -> Row
     ensures epochs { result.epochs ≡ None }
 {
     Row {
-        quanta: to(4_000_000),
+        quanta: to(MOST_QUANTA),
         ..plain(name)
     }
 }
