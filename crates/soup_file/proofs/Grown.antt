@@ -15,10 +15,10 @@ use Rattle.tierra_asm.specs.Listing.{listing_of, named_code}
 use Rattle.tierra_asm.specs.declared.AsmFault.{AsmFault}
 use Rattle.tierra_asm.specs.declared.AsmFault.TheVariants.{Empty, TooLong}
 use Rattle.soup_file.specs.declared.key.Key.TheVariants.{At, Code}
-use Rattle.soup_file.specs.Keys.{file_fault, first_fault, in_a_creature, name_of, names_one_of, number_in, read_at, text_in, unknown_in, unknown_key}
+use Rattle.soup_file.specs.Keys.{file_fault, first_fault, in_a_creature, name_of, names_one_of, number_in, read_at, unknown_in, unknown_key}
 use Rattle.soup_file.specs.Settings.{AreSettingsOf, setting_checks, soup_size_of}
-use Rattle.soup_file.specs.Creatures.{all_creature_checks, code_of, creature_tables, in_creature, inocula_of, inoculum_from, inoculum_of, own_checks, past_end, place_of, text_of}
-use Rattle.soup_file.specs.SoupFile.{IsDocument, IsSetupOf, IsSoupFile, checks_of, top_keys}
+use Rattle.soup_file.specs.Creatures.{all_creature_checks, code_of, creature_tables, in_creature, inoculum_from, inoculum_of, own_checks, past_end, place_of, text_of}
+use Rattle.soup_file.specs.SoupFile.{IsDocument, IsSetupOf, IsSoupFile, top_keys}
 use Rattle.soup_file.specs.Laws.{one_creature}
 use Rattle.soup_file.proofs.Checks.{passed}
 use Rattle.soup_file.proofs.InOrder.{passes-all}
