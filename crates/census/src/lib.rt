@@ -1,7 +1,8 @@
 //! How many individuals of each genotype live.
 #![tactic(auto, unfolding(crate::specs::Census::living_of, crate::specs::Census::spare_of))]
 
-ghost use Rattle.std.specs.Prelude.{◌≡◌, ◌==◌, ◌+◌, ◌<◌, ◌≤◌, ◌^◌, ℕ, OnOk};
+ghost use Rattle.std.specs.Prelude.{◌≡◌, ◌==◌, ◌+◌, ◌<◌, ◌≤◌, ℕ, OnOk};
+ghost use Rattle.tierra_model.specs.declared.limits.TheConstants.{COUNT_END};
 ghost use Rattle.tierra_model.specs.Counting.{one_if};
 
 use std::alloc::Global;
@@ -38,7 +39,7 @@ impl Census {
     /// One more lives.
     pub fn born(&mut self, genotype: u64)
         requires room { 0 < spare_of self.old }
-        requires count { living_of self.old genotype < 2 ^ 60 }
+        requires count { living_of self.old genotype < COUNT_END }
         ensures living { (g : ℕ) → living_of self.new g ≡ living_of self.old g + one_if (genotype == g) }
         ensures room { spare_of self.old ≤ spare_of self.new + 1 }
     {
