@@ -10,6 +10,7 @@ mod template;
 mod tests;
 
 ghost use Rattle.std.specs.Prelude.{◌≡◌, ◌<◌, ◌≤◌, ◌+◌, length, IfSome, [], ◌∷◌};
+ghost use Rattle.tierra_model.specs.declared.limits.TheConstants.{MOST_CELLS};
 ghost use Rattle.tierra_model.specs.Look.{Passes};
 ghost use Rattle.tierra_model.specs.Search.{candidates, search_for, try_each};
 ghost use Rattle.template_search.specs.Sides.{on_sides};
@@ -27,7 +28,7 @@ pub use tierra_model::{Found, Way};
 /// to the first mismatch.
 pub fn search<V: View>(view: &mut V, ip: u32, way: Way, limit: u32, min: u32) -> Found
     requires ip { ip < V.size view.old }
-    requires cells { V.size view.old ≤ 1048576 }
+    requires cells { V.size view.old ≤ MOST_CELLS }
     ensures passes { Passes V.cells V.looked (search_for (V.size view.old) ip way limit min) view.old view.new result }
     ensures below { IfAt result (λ p. p < V.size view.old) }
 {
@@ -54,9 +55,10 @@ fn nearest<V: View>(
 ) -> Option<u32>
     requires ip { ip < size }
     requires size { size ≡ V.size view.old }
-    requires cells { size ≤ 1048576 }
+    requires cells { size ≤ MOST_CELLS }
     requires short { length nops.now ≤ 10 }
-    ensures passes { Passes V.cells V.looked (try_each size nops.now (candidates size ip (length nops.now) way limit 1)) view.old view.new result }
+    ensures passes { Passes V.cells V.looked
+        (try_each size nops.now (candidates size ip (length nops.now) way limit 1)) view.old view.new result }
     ensures below { IfSome result (λ p. p < size) }
 {
     match way {
@@ -78,9 +80,10 @@ fn nearest_of<V: View>(
 ) -> Option<u32>
     requires ip { ip < size }
     requires size { size ≡ V.size view.old }
-    requires cells { size ≤ 1048576 }
+    requires cells { size ≤ MOST_CELLS }
     requires short { length nops.now ≤ 10 }
-    ensures passes { Passes V.cells V.looked (try_each size nops.now (candidates size ip (length nops.now) way limit 1)) view.old view.new result }
+    ensures passes { Passes V.cells V.looked
+        (try_each size nops.now (candidates size ip (length nops.now) way limit 1)) view.old view.new result }
     ensures below { IfSome result (λ p. p < size) }
 {
     let len = nops.len() as u32;
@@ -108,7 +111,8 @@ fn match_near<V: View>(
     requires ahead { ahead < size }
     requires behind { behind < size }
     requires size { size ≡ V.size view.old }
-    ensures passes { Passes V.cells V.looked (try_each size nops.now (on_sides way ahead behind)) view.old view.new result }
+    ensures passes { Passes V.cells V.looked
+        (try_each size nops.now (on_sides way ahead behind)) view.old view.new result }
     ensures below { IfSome result (λ p. p < size) }
     ensures same { V.size view.new ≡ size }
 {

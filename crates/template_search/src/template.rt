@@ -20,7 +20,8 @@ pub struct Template {
 pub fn read_template<V: View>(view: &mut V, start: u32, size: u32) -> Template
     requires start { start < size }
     requires size { size ≡ V.size view.old }
-    ensures passes { Passes V.cells V.looked (read_template size 10 start) view.old view.new (take result.len result.cells) }
+    ensures passes { Passes V.cells V.looked
+        (read_template size 10 start) view.old view.new (take result.len result.cells) }
     ensures len { length (take result.len result.cells) ≡ result.len }
     ensures same { V.size view.new ≡ size }
 {
