@@ -21,7 +21,8 @@ pub fn or1(creature: &mut Creature, flaw: i32) -> Act
 /// Shifts cx by one bit; flawed, by two or none.
 pub fn shl(creature: &mut Creature, flaw: i32) -> Act
     requires { IsFlaw flaw }
-    ensures creature { creature.new ≡ record creature.old { cx = times creature.old.cx (pos (2 ^ unsigned_abs (pos 1 +ℤ flaw))) } }
+    ensures creature { creature.new
+        ≡ record creature.old { cx = times creature.old.cx (pos (2 ^ unsigned_abs (pos 1 +ℤ flaw))) } }
     ensures act { result ≡ Act.Plain }
 {
     creature.cx = match flaw {

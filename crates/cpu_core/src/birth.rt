@@ -2,6 +2,7 @@
 
 ghost use Rattle.std.specs.Prelude.{◌≡◌, ◌<◌, ◌^◌, if◌then◌else◌, IfNone, IfSome};
 ghost use Rattle.std.specs.Option.{ForSome};
+ghost use Rattle.tierra_model.specs.declared.limits.TheConstants.{COUNT_END};
 ghost use Rattle.tierra_model.specs.Step.{mal_act, mal_request, may_divide};
 ghost use Rattle.tierra_model.specs.declared.events.Event.TheVariants as event;
 ghost use Rattle.tierra_model.specs.Events.{record_after};
@@ -13,7 +14,7 @@ use tierra_model::{Act, Block, Creature, Settings};
 
 /// Counts an error.
 pub fn fail(creature: &mut Creature) -> Act
-    requires { creature.old.errors < 2 ^ 60 }
+    requires { creature.old.errors < COUNT_END }
     ensures creature { creature.new ≡ creature_after Act.Erred creature.old }
     ensures act { result ≡ Act.Erred }
 {
@@ -24,7 +25,7 @@ pub fn fail(creature: &mut Creature) -> Act
 
 /// Asks for a daughter block of cx cells.
 pub fn mal(creature: &mut Creature, settings: &Settings) -> Act
-    requires { creature.old.errors < 2 ^ 60 }
+    requires { creature.old.errors < COUNT_END }
     ensures creature { creature.new ≡ creature_after result creature.old }
     ensures act { result ≡ mal_act (mal_request settings.now creature.old.own.size creature.old.cx) }
 {
@@ -36,9 +37,10 @@ pub fn mal(creature: &mut Creature, settings: &Settings) -> Act
 
 /// Asks for the birth of the daughter.
 pub fn divide(creature: &mut Creature, settings: &Settings) -> Act
-    requires { creature.old.errors < 2 ^ 60 }
+    requires { creature.old.errors < COUNT_END }
     ensures creature { creature.new ≡ creature_after result creature.old }
-    ensures act { result ≡ (if may_divide settings.now creature.old.daughter creature.old.moved then Act.Divide else Act.Erred) }
+    ensures act { result
+        ≡ (if may_divide settings.now creature.old.daughter creature.old.moved then Act.Divide else Act.Erred) }
 {
     if may_divide(creature.daughter, creature.moved, settings) {
         Act::Divide
@@ -51,7 +53,7 @@ pub fn divide(creature: &mut Creature, settings: &Settings) -> Act
 ///
 /// A daughter block that was held is no longer held.
 pub fn mal_done(creature: &mut Creature, got: Option<Block>)
-    requires errors { creature.old.errors < 2 ^ 60 }
+    requires errors { creature.old.errors < COUNT_END }
     requires inside { ForSome got (λ block. block.at < 2 ^ 31) }
     ensures taken { IfSome got (λ block. creature.new ≡ record_after (event.Mal block.at block.size) creature.old) }
     ensures none { IfNone got (creature.new ≡ record_after event.Err (without_daughter creature.old)) }
@@ -81,7 +83,7 @@ fn give_up(creature: &mut Creature)
 
 /// Ends a `divide`: the daughter is a creature of its own.
 pub fn divide_done(creature: &mut Creature)
-    requires { creature.old.bred < 2 ^ 60 }
+    requires { creature.old.bred < COUNT_END }
     ensures { creature.new ≡ record_after (event.Divide creature.old.ran creature.old.moved) creature.old }
 {
     creature.daughter = None;

@@ -1,6 +1,7 @@
 //! The copy of a cell.
 
 ghost use Rattle.std.specs.Prelude.{◌≡◌, ◌<◌, ◌+◌, ◌^◌, ◌||◌, ℕ, IsTrue, ◌↔◌, IfSome};
+ghost use Rattle.tierra_model.specs.declared.limits.TheConstants.{COUNT_END};
 ghost use Rattle.tierra_model.specs.Blocks.{is_in, is_in_daughter};
 ghost use Rattle.tierra_model.specs.Ring.{address};
 ghost use Rattle.tierra_model.specs.Step.{copy, flip_bit};
@@ -51,9 +52,11 @@ pub fn mov_iab<V: View>(
     settings: &Settings,
 ) -> Act
     requires ready { IsReady V.size V.cells V.writable settings.now creature.old view.old }
-    requires moved { creature.old.moved < 2 ^ 60 }
-    requires errors { creature.old.errors < 2 ^ 60 }
-    ensures { Executes V.cells V.looked V.written (copy creature.old (address creature.old.bx settings.now.soup_size) (address creature.old.ax settings.now.soup_size) (copy_bit_of draws.now i)) view.old view.new creature.new result }
+    requires moved { creature.old.moved < COUNT_END }
+    requires errors { creature.old.errors < COUNT_END }
+    ensures { Executes V.cells V.looked V.written (copy creature.old
+        (address creature.old.bx settings.now.soup_size) (address creature.old.ax settings.now.soup_size)
+        (copy_bit_of draws.now i)) view.old view.new creature.new result }
 {
     let to = addr(creature.ax, settings.soup_size);
     let to_daughter = is_in_daughter(creature, to);

@@ -1,6 +1,7 @@
 //! Instructions that go elsewhere, or find where they might go.
 
 ghost use Rattle.std.specs.Prelude.{◌≡◌, ◌<◌, ◌+◌, ◌%◌, ◌^◌, pos, if◌then◌else◌};
+ghost use Rattle.tierra_model.specs.declared.limits.TheConstants.{COUNT_END};
 ghost use Rattle.tierra_model.specs.Look.{Passes};
 ghost use Rattle.tierra_model.specs.Ring.{address, plus};
 ghost use Rattle.tierra_model.specs.Step.{is_zero, pop, push, top_of};
@@ -33,7 +34,10 @@ pub fn next_cell(ip: u32, settings: &Settings) -> u32
 /// Skips the next instruction where cx is not 0.
 pub fn if_cz(creature: &mut Creature, settings: &Settings) -> Act
     requires { creature.old.ip < settings.now.soup_size }
-    ensures creature { creature.new ≡ record creature.old { ip = (if is_zero creature.old.cx then creature.old.ip else (creature.old.ip + 1) % settings.now.soup_size) } }
+    ensures creature { creature.new ≡ record creature.old {
+      ip = (if is_zero creature.old.cx then creature.old.ip
+          else (creature.old.ip + 1) % settings.now.soup_size);
+    } }
     ensures act { result ≡ Act.Plain }
 {
     if creature.cx != 0 {
@@ -45,7 +49,8 @@ pub fn if_cz(creature: &mut Creature, settings: &Settings) -> Act
 /// Goes to the address that it pops.
 pub fn ret(creature: &mut Creature, settings: &Settings) -> Act
     requires { creature.old.sp < 10 }
-    ensures creature { creature.new ≡ record (pop creature.old) { ip = address (top_of creature.old) settings.now.soup_size } }
+    ensures creature { creature.new
+        ≡ record (pop creature.old) { ip = address (top_of creature.old) settings.now.soup_size } }
     ensures act { result ≡ Act.Plain }
 {
     let value = pop_value(creature);
@@ -73,8 +78,9 @@ pub fn jump<V: View>(
 ) -> Act
     requires size { V.size view.old ≡ settings.now.soup_size }
     requires ip { ip < settings.now.soup_size }
-    requires errors { creature.old.errors < 2 ^ 60 }
-    ensures { Executes V.cells V.looked V.written (search_outcome settings.now ip way creature.old (λ p. record creature.old { ip = p })) view.old view.new creature.new result }
+    requires errors { creature.old.errors < COUNT_END }
+    ensures { Executes V.cells V.looked V.written (search_outcome settings.now ip way creature.old
+        (λ p. record creature.old { ip = p })) view.old view.new creature.new result }
 {
     match find(view, ip, way, settings) {
         Found::At(place) => {
@@ -92,8 +98,9 @@ pub fn call<V: View>(creature: &mut Creature, view: &mut V, ip: u32, settings: &
     requires ip { ip < settings.now.soup_size }
     requires next { creature.old.ip < settings.now.soup_size }
     requires sp { creature.old.sp < 10 }
-    requires errors { creature.old.errors < 2 ^ 60 }
-    ensures { Executes V.cells V.looked V.written (search_outcome settings.now ip Way.Outward creature.old (λ p. record (push creature.old (pos creature.old.ip)) { ip = p })) view.old view.new creature.new result }
+    requires errors { creature.old.errors < COUNT_END }
+    ensures { Executes V.cells V.looked V.written (search_outcome settings.now ip Way.Outward creature.old
+        (λ p. record (push creature.old (pos creature.old.ip)) { ip = p })) view.old view.new creature.new result }
 {
     match find(view, ip, Way::Outward, settings) {
         Found::At(place) => {
@@ -117,8 +124,9 @@ pub fn find_address<V: View>(
 ) -> Act
     requires size { V.size view.old ≡ settings.now.soup_size }
     requires ip { ip < settings.now.soup_size }
-    requires errors { creature.old.errors < 2 ^ 60 }
-    ensures { Executes V.cells V.looked V.written (search_outcome settings.now ip way creature.old (λ p. record creature.old { ax = plus (pos p) (flaw_of draws.now i) })) view.old view.new creature.new result }
+    requires errors { creature.old.errors < COUNT_END }
+    ensures { Executes V.cells V.looked V.written (search_outcome settings.now ip way creature.old
+        (λ p. record creature.old { ax = plus (pos p) (flaw_of draws.now i) })) view.old view.new creature.new result }
 {
     match find(view, ip, way, settings) {
         Found::At(place) => {

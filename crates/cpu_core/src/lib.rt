@@ -10,7 +10,8 @@ mod stack;
 #[cfg(test)]
 mod tests;
 
-ghost use Rattle.std.specs.Prelude.{◌≡◌, ◌<◌, ◌+◌, ◌^◌};
+ghost use Rattle.std.specs.Prelude.{◌≡◌, ◌<◌, ◌+◌};
+ghost use Rattle.tierra_model.specs.declared.limits.TheConstants.{COUNT_END};
 ghost use Rattle.tierra_model.specs.Draw.{word};
 ghost use Rattle.tierra_model.specs.Step.{execute, step};
 ghost use Rattle.tierra_model.specs.Table.{op_of};
@@ -47,10 +48,11 @@ pub fn step<V: View, L: Ledger>(
     steps: &mut Steps<L>,
 ) -> Act
     requires ready { IsReady V.size V.cells V.writable settings.now creature.old view.old }
-    requires moved { creature.old.moved < 2 ^ 60 }
-    requires errors { creature.old.errors < 2 ^ 60 }
-    requires ran { creature.old.ran < 2 ^ 60 }
-    ensures executes { Executes V.cells V.looked V.written (step (with_rates_of draws.now settings.now) (word draws.now.seed draws.now.quantum) i creature.old) view.old view.new creature.new result }
+    requires moved { creature.old.moved < COUNT_END }
+    requires errors { creature.old.errors < COUNT_END }
+    requires ran { creature.old.ran < COUNT_END }
+    ensures executes { Executes V.cells V.looked V.written (step (with_rates_of draws.now settings.now)
+        (word draws.now.seed draws.now.quantum) i creature.old) view.old view.new creature.new result }
     ensures ready { IsReady V.size V.cells V.writable settings.now creature.new view.new }
     ensures after { IsAfterStep creature.old creature.new }
     ensures ticks { steps.new ≡ steps.old + 1 }
@@ -65,7 +67,7 @@ pub fn step<V: View, L: Ledger>(
 // Goes on to the next cell, and counts the instruction.
 fn begin(creature: &mut Creature, settings: &Settings)
     requires ip { creature.old.ip < settings.now.soup_size }
-    requires ran { creature.old.ran < 2 ^ 60 }
+    requires ran { creature.old.ran < COUNT_END }
     ensures { creature.new ≡ start_record settings.now creature.old }
 {
     creature.ip = next_cell(creature.ip, settings);
@@ -93,9 +95,10 @@ fn execute<V: View>(
 ) -> Act
     requires ready { IsReady V.size V.cells V.writable settings.now creature.old view.old }
     requires ip { ip < settings.now.soup_size }
-    requires errors { creature.old.errors < 2 ^ 60 }
-    requires moved { creature.old.moved < 2 ^ 60 }
-    ensures { Executes V.cells V.looked V.written (execute settings.now (flaw_of draws.now i) (copy_bit_of draws.now i) ip creature.old op) view.old view.new creature.new result }
+    requires errors { creature.old.errors < COUNT_END }
+    requires moved { creature.old.moved < COUNT_END }
+    ensures { Executes V.cells V.looked V.written (execute settings.now (flaw_of draws.now i)
+        (copy_bit_of draws.now i) ip creature.old op) view.old view.new creature.new result }
 {
     match op {
         Op::Nop0 | Op::Nop1 => Act::Plain,

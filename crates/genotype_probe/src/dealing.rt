@@ -4,6 +4,7 @@ ghost use Rattle.std.specs.Prelude.{◌≡◌, ◌++◌, ◌+◌, ◌<◌, ◌�
 ghost use Rattle.std.specs.Thread.{IsSync};
 ghost use Rattle.genotype_probe.specs.Dealing.{AreParts, IsPart};
 ghost use Rattle.genotype_probe.specs.Probes.{HasCode, probe};
+ghost use Rattle.tierra_model.specs.declared.limits.TheConstants.{MOST_QUANTA};
 
 use crate::{Efforts, probe};
 use std::alloc::Global;
@@ -20,7 +21,7 @@ fn probe_every(
     step: u32,
 ) -> Result<Vec<Efforts>, OutOfMemory>
     requires codes { All HasCode saved.now }
-    requires quanta { (1 ≤ n) × (n ≤ 4000000) }
+    requires quanta { (1 ≤ n) × (n ≤ MOST_QUANTA) }
     requires step { (1 ≤ step) × (step ≤ 64) × (first ≤ 64) }
     ensures { IfOk result (λ part. IsPart saved.now n first step part.items) }
 {
@@ -58,7 +59,7 @@ fn parts_from<R: Threads + Sync>(
     step: u32,
 ) -> Result<Vec<Vec<Efforts>>, OutOfMemory>
     requires codes { All HasCode saved.now }
-    requires quanta { (1 ≤ n) × (n ≤ 4000000) }
+    requires quanta { (1 ≤ n) × (n ≤ MOST_QUANTA) }
     requires workers { (first < last) × (last ≤ step) × (step ≤ 64) }
     ensures { IfOk result (λ parts. AreParts saved.now n first last step parts.items) }
 {
@@ -73,12 +74,12 @@ fn parts_from<R: Threads + Sync>(
         rt,
         || -> Result<Vec<Vec<Efforts>>, OutOfMemory>
             requires { IsSync R.row × All HasCode saved.now
-                × ((1 ≤ n) × (n ≤ 4000000)) × ((first < middle) × (middle ≤ step) × (step ≤ 64)) }
+                × ((1 ≤ n) × (n ≤ MOST_QUANTA)) × ((first < middle) × (middle ≤ step) × (step ≤ 64)) }
             ensures { IfOk result (λ parts. AreParts saved.entry.now n first middle step parts.items) }
         { parts_from(rt, alloc, saved, n, first, middle, step) },
         || -> Result<Vec<Vec<Efforts>>, OutOfMemory>
             requires { IsSync R.row × All HasCode saved.now
-                × ((1 ≤ n) × (n ≤ 4000000)) × ((middle < last) × (last ≤ step) × (step ≤ 64)) }
+                × ((1 ≤ n) × (n ≤ MOST_QUANTA)) × ((middle < last) × (last ≤ step) × (step ≤ 64)) }
             ensures { IfOk result (λ parts. AreParts saved.entry.now n middle last step parts.items) }
         { parts_from(rt, alloc, saved, n, middle, last, step) },
     );
@@ -125,7 +126,7 @@ pub(crate) fn probe_dealt<R: Threads + Sync>(
     workers: u32,
 ) -> Result<Vec<Efforts>, OutOfMemory>
     requires codes { All HasCode saved.now }
-    requires quanta { (1 ≤ n) × (n ≤ 4000000) }
+    requires quanta { (1 ≤ n) × (n ≤ MOST_QUANTA) }
     requires workers { (1 ≤ workers) × (workers ≤ 64) }
     ensures { IfOk result (λ all. all.items ≡ map (λ s. probe s.code n) saved.now) }
 {

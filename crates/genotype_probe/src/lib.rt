@@ -7,6 +7,7 @@ mod tests;
 mod text;
 
 ghost use Rattle.std.specs.Prelude.{◌≡◌, ◌++◌, ◌<◌, ◌≤◌, All, IfOk, OnOk, map};
+ghost use Rattle.tierra_model.specs.declared.limits.TheConstants.{MOST_QUANTA};
 ghost use Rattle.tierra_model.specs.Ranges.{IsCode};
 ghost use Rattle.tierra_model.specs.World.{genotype_at};
 ghost use Rattle.genotype_probe.specs.Probes.{HasCode, efforts_of, probe, probe_all, saved_of};
@@ -46,7 +47,7 @@ impl Model for EffortList {
 /// Runs the code alone in a fresh soup with the default settings for `n` quanta.
 pub fn probe(alloc: Global, code: &Code, n: u64) -> Result<Efforts, OutOfMemory>
     requires code { IsCode code.now }
-    requires quanta { (1 ≤ n) × (n ≤ 4000000) }
+    requires quanta { (1 ≤ n) × (n ≤ MOST_QUANTA) }
     ensures { IfOk result (λ e. e ≡ probe code.now n) }
 {
     let items = code.items.clone()?;
@@ -79,7 +80,7 @@ pub fn probe_all<R: Threads + Sync>(
     n: u64,
     workers: u32,
 ) -> Result<EffortList, OutOfMemory>
-    requires quanta { (1 ≤ n) × (n ≤ 4000000) }
+    requires quanta { (1 ≤ n) × (n ≤ MOST_QUANTA) }
     requires workers { (1 ≤ workers) × (workers ≤ 64) }
     ensures { IfOk result (λ e. e ≡ probe_all groups.now n) }
 {

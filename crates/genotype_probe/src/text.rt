@@ -2,6 +2,7 @@
 
 ghost use Rattle.std.specs.Prelude.{◌≡◌, ◌≤◌, ◌++◌, IfOk, OnOk};
 ghost use Rattle.genotype_probe.specs.Text.{effort_text, probe_line, probe_text};
+ghost use Rattle.tierra_model.specs.declared.limits.TheConstants.{MOST_QUANTA};
 
 use crate::dealing::probe_dealt;
 use crate::{Efforts, saved_of};
@@ -18,7 +19,7 @@ pub fn probe_text<R: Threads + Sync>(
     n: u64,
     workers: u32,
 ) -> Result<Text, OutOfMemory>
-    requires quanta { (1 ≤ n) × (n ≤ 4000000) }
+    requires quanta { (1 ≤ n) × (n ≤ MOST_QUANTA) }
     requires workers { (1 ≤ workers) × (workers ≤ 64) }
     ensures { IfOk result (λ text. text ≡ probe_text groups.now n) }
 {

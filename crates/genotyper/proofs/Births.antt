@@ -7,6 +7,7 @@ use Rattle.indexmap.specs.IndexMap.{insert_entry}
 use Rattle.std.proofs.lemmas.List.Elements.{All-head, All-tail}
 use Rattle.std.specs.Str.{bytes_eq}
 use Rattle.std.proofs.lemmas.Bool.Decides.{nat_tests}
+use Rattle.tierra_model.specs.declared.limits.TheConstants.{MOST_SIZE}
 use Rattle.tierra_model.specs.Counting.{one_if}
 use Rattle.tierra_model.specs.Genebank.{number_before}
 use Rattle.tierra_model.specs.Individuals.{genotype_number, with_individual, with_one_more}
@@ -96,7 +97,7 @@ number_before-one_more size es e =
     rw (genotypes_of-append es e, n, ← length-genotypes_of es) (number_before-append_one size (genotypes_of es) (genotype_of e))
 
 -- the genotype of a code that none had goes last, with the count of its size as its rank
-pub ranked-append : (es : Entries) (count more : ℕ → ℕ) (code : List ℕ) (d : Details) → IsRanked es count → length code ≤ 20000
+pub ranked-append : (es : Entries) (count more : ℕ → ℕ) (code : List ℕ) (d : Details) → IsRanked es count → length code ≤ MOST_SIZE
     → d.rank ≡ count (length code) → ((size : ℕ) → more size ≡ count size + one_if (length code == size))
     → IsRanked (es ++ (code, d) ∷ []) more
 ranked-append es count more code d r fits rank counts =
@@ -174,7 +175,7 @@ total_of_code code (g ∷ gs) n h = go (bytes_eq g.code code) (genotype_number c
 
 -- the same by equations
 pub ranked-first : (es fs : Entries) (count more : ℕ → ℕ) (code : List ℕ) (d : Details) (size : ℕ) → fs ≡ es ++ (code, d) ∷ [] → IsRanked es count
-    → length code ≤ 20000 → size ≡ length code → d.rank ≡ count size → ((n : ℕ) → more n ≡ count n + one_if (size == n)) → IsRanked fs more
+    → length code ≤ MOST_SIZE → size ≡ length code → d.rank ≡ count size → ((n : ℕ) → more n ≡ count n + one_if (size == n)) → IsRanked fs more
 ranked-first es fs count more code d size e r fits long rank counts =
     subst (λ xs. IsRanked xs more) (sym e)
     (ranked-append es count more code d r fits (rank ∙ ap count long) (λ n. counts n ∙ ap (λ s. count n + one_if (s == n)) long))

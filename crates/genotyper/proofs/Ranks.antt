@@ -9,6 +9,7 @@ use Rattle.std.specs.List.{list_all}
 use Rattle.std.specs.Prelude.{nat_le, nat_lt, ◌⊎◌}
 use Rattle.genotyper.specs.Names.{are_letters, is_word, letters_of, rank_of, shorter_words, value_in, word, word_from}
 use Rattle.genotyper.proofs.Words.{shorter_words-closed, word_from-here, word_from-later}
+use Rattle.tierra_model.specs.declared.limits.TheConstants.{COUNT_END}
 
 -- ---- words of n letters
 
@@ -137,8 +138,8 @@ is_word-word more place h k =
     let high : nat_le (more + 3) 13 ≡ true = grind (arith, nat_tests) in
     rw (length-word (more + 3) place, low, high, lowercase-word (more + 3) place h)
 
--- thirteen letters at most for a rank below 2 ^ 60
-more_is_few : (more rank : ℕ) → shorter_words more ≤ rank → rank < 2 ^ 60 → more ≤ 10
+-- thirteen letters at most for a rank below COUNT_END
+more_is_few : (more rank : ℕ) → shorter_words more ≤ rank → rank < COUNT_END → more ≤ 10
 more_is_few more rank h k = go (cases_lt 10 more)
   where
     go : (10 < more) ⊎ (more ≤ 10) → more ≤ 10
@@ -153,11 +154,11 @@ rank_of-letters_of rank =
     let s = letters_of-spells rank in
     ap rank_of s.letters_are ∙ rank_of-word s.more s.place s.below ∙ s.rank_is
 
-pub are_letters-letters_of : (rank : ℕ) → rank < 2 ^ 60 → are_letters (letters_of rank) ≡ true
+pub are_letters-letters_of : (rank : ℕ) → rank < COUNT_END → are_letters (letters_of rank) ≡ true
 are_letters-letters_of rank h =
     let s = letters_of-spells rank in
     let few = more_is_few s.more rank (omega (arith, s.rank_is)) h in
-    let small : nat_lt rank (2 ^ 60) ≡ true = grind (arith, nat_tests) in
+    let small : nat_lt rank COUNT_END ≡ true = grind (arith, nat_tests) in
     let spelled : is_word (letters_of rank) ≡ true = ap is_word s.letters_are ∙ is_word-word s.more s.place s.below few in
     rw (spelled, rank_of-letters_of rank, small)
 

@@ -9,6 +9,7 @@ use Rattle.std.specs.Char.{is_ascii_digit, is_ascii_lowercase}
 use Rattle.std.specs.List.{list_all}
 use Rattle.std.specs.Prelude.{Err, IfOk, Ok, Result, if◌then◌else◌, not}
 use Rattle.std.specs.Str.{all_ascii_digits}
+use Rattle.tierra_model.specs.declared.limits.TheConstants.{COUNT_END, MOST_SIZE}
 use Rattle.tierra_model.specs.declared.genebank.Name.{Name}
 use Rattle.tierra_model.specs.Groups.{IsName}
 use Rattle.genotyper.specs.declared.names.NameFault.{NameFault}
@@ -67,8 +68,8 @@ name_in-is_text text = go (is_size (digits_of text)) (are_letters (rest_of text)
     go true false e f = tt
     go true true e f =
         let least : 1 ≤ value_in 10 48 (digits_of text) = grind (arith, nat_tests) in
-        let most : value_in 10 48 (digits_of text) ≤ 20000 = grind (arith, nat_tests) in
-        let small : rank_of (rest_of text) < 2 ^ 60 = grind (arith, nat_tests) in
+        let most : value_in 10 48 (digits_of text) ≤ MOST_SIZE = grind (arith, nat_tests) in
+        let small : rank_of (rest_of text) < COUNT_END = grind (arith, nat_tests) in
         let spelled : is_word (rest_of text) ≡ true = (and_parts _ _ f).0 in (
           (least, most, small),
           split text

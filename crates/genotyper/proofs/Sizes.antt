@@ -10,6 +10,7 @@ use Rattle.std.specs.Fmt.{decimal}
 use Rattle.std.specs.Prelude.{nat_le, not, replicate, slice_index, ◌==◌, ◌||◌, ◌⊎◌}
 use Rattle.std.specs.Str.{all_ascii_digits}
 use Rattle.genotyper.specs.Names.{is_size, size_text, value_in}
+use Rattle.tierra_model.specs.declared.limits.TheConstants.{MOST_SIZE}
 
 own : IsNumeralModel (λ ds. all_ascii_digits ds ≡ true) (value_in 10 48)
 own = numerals_by_weight (λ ds. all_ascii_digits ds ≡ true) tells_all_ascii_digits (value_in 10 48) (search rules)
@@ -88,12 +89,12 @@ starts_well n h k = go (cases_lt 4 (length (decimal n)))
         let is_four : (length (size_text n) == 4) ≡ true = eq-eqb (length (size_text n)) 4 four in
         or_left _ _ is_four
 
-pub is_size-size_text : (n : ℕ) → 1 ≤ n → n ≤ 20000 → is_size (size_text n) ≡ true
+pub is_size-size_text : (n : ℕ) → 1 ≤ n → n ≤ MOST_SIZE → is_size (size_text n) ≡ true
 is_size-size_text n h k =
     let small : n < 2 ^ 64 = omega arith in
     let long : nat_le 4 (length (size_text n)) ≡ true = search (rules, length-size_text n) in
     let one : nat_le 1 n ≡ true = grind (arith, nat_tests) in
-    let most : nat_le n 20000 ≡ true = grind (arith, nat_tests) in
+    let most : nat_le n MOST_SIZE ≡ true = grind (arith, nat_tests) in
     rw (long, starts_well n h small, value-size_text n small, one, most)
 
 -- ---- digits that are a size
@@ -116,7 +117,7 @@ no_zeros (suc z) x xs ds e h =
 pub size_text-value : (ds : List ℕ) → all_ascii_digits ds ≡ true → is_size ds ≡ true → size_text (value_in 10 48 ds) ≡ ds
 size_text-value [] h k = cc
 size_text-value (x ∷ xs) h k =
-    let small : value_in 10 48 (x ∷ xs) ≤ 20000 = grind (arith, nat_tests) in
+    let small : value_in 10 48 (x ∷ xs) ≤ MOST_SIZE = grind (arith, nat_tests) in
     let f = fills x xs h (omega arith) in
     go f.zeros (decimal (value_in 10 48 (x ∷ xs))) f.filled (starts x xs k)
   where

@@ -9,6 +9,7 @@ use Rattle.std.specs.Char.{is_ascii_digit}
 use Rattle.std.specs.Prelude.{All, nat_le, slice_index, ◌⊎◌}
 use Rattle.std.specs.Str.{all_ascii_digits}
 use Rattle.genotyper.specs.Names.{digits_of, is_size, is_word, value_in}
+use Rattle.tierra_model.specs.declared.limits.TheConstants.{MOST_SIZE}
 
 -- ---- letters
 
@@ -48,7 +49,7 @@ long_is_no_size (x ∷ xs) d h = go (cases_lt 48 x)
         let five : 5 ≤ length xs = omega arith in
         let unit : 10 ^ 5 ≤ 10 ^ length xs = pow-le-pow_right (lit< tt) five in
         let digit : 1 * 10 ^ length xs ≤ (x - 48) * 10 ^ length xs = mul-le-mul_right (10 ^ length xs) (omega arith) in
-        let great : 20000 < value_in 10 48 (x ∷ xs) = omega arith in
+        let great : MOST_SIZE < value_in 10 48 (x ∷ xs) = omega arith in
         grind (arith, nat_tests)
     go (inr less) =
         let low = (in_range x (and_parts (is_ascii_digit x) (all_ascii_digits xs) d).0).0 in

@@ -1,5 +1,6 @@
 -- Genotypes in the order of their first birth.
 use Rattle.std.specs.Prelude.{List, None, Option, Some, length, map, slice_get, ℕ, ◌≡◌, ◌≤◌}
+use Rattle.tierra_model.specs.declared.limits.TheConstants.{MOST_SIZE}
 use Rattle.tierra_model.specs.Genebank.{number_before}
 use Rattle.tierra_model.specs.World.{Genotype}
 use Rattle.genotyper.specs.declared.genotypes.Details.{Details}
@@ -31,7 +32,7 @@ genotypes_of entries = map genotype_of entries
 
 -- What the type keeps: no code is too long, each rank is that of the list, and each count is that of a size.
 pub record IsRanked (entries : List (List ℕ × Details)) (count : ℕ → ℕ) : Type 0 where
-  pub short : (k : ℕ) (code : List ℕ) (d : Details) → slice_get entries k ≡ Some (code, d) → length code ≤ 20000
+  pub short : (k : ℕ) (code : List ℕ) (d : Details) → slice_get entries k ≡ Some (code, d) → length code ≤ MOST_SIZE
   pub ranks : (k : ℕ) (code : List ℕ) (d : Details) → slice_get entries k ≡ Some (code, d)
       → d.rank ≡ number_before (length code) (genotypes_of entries) k
   pub counts : (size : ℕ) → count size ≡ number_before size (genotypes_of entries) (length entries)

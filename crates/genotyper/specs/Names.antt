@@ -3,6 +3,7 @@ use Rattle.std.specs.Char.{is_ascii_digit, is_ascii_lowercase}
 use Rattle.std.specs.List.{list_all, take_while}
 use Rattle.std.specs.Fmt.{decimal}
 use Rattle.std.specs.Prelude.{Bool, Err, List, Ok, Result, [], drop, if◌then◌else◌, length, nat_le, nat_lt, not, replicate, slice_index, suc, true, false, zero, ℕ, ◌%◌, ◌&&◌, ◌*◌, ◌++◌, ◌+◌, ◌-◌, ◌/◌, ◌==◌, ◌^◌, ◌||◌, ◌∷◌}
+use Rattle.tierra_model.specs.declared.limits.TheConstants.{COUNT_END, MOST_SIZE}
 use Rattle.tierra_model.specs.declared.genebank.Name.{Name}
 use Rattle.genotyper.specs.declared.names.NameFault.{NameFault}
 use Rattle.genotyper.specs.declared.names.NameFault.TheVariants.{BadLetters, BadSize}
@@ -62,15 +63,15 @@ rest_of text = drop (length (digits_of text)) text
 abbrev pub is_size : List ℕ → Bool
 is_size digits =
     nat_le 4 (length digits) && (length digits == 4 || not (slice_index digits 0 == 48))
-    && nat_le 1 (value_in 10 48 digits) && nat_le (value_in 10 48 digits) 20000
+    && nat_le 1 (value_in 10 48 digits) && nat_le (value_in 10 48 digits) MOST_SIZE
 
 -- three to thirteen lower-case letters
 abbrev pub is_word : List ℕ → Bool
 is_word bytes = nat_le 3 (length bytes) && nat_le (length bytes) 13 && list_all is_ascii_lowercase bytes
 
--- of a rank below 2 ^ 60
+-- of a rank below COUNT_END
 abbrev pub are_letters : List ℕ → Bool
-are_letters bytes = is_word bytes && nat_lt (rank_of bytes) (2 ^ 60)
+are_letters bytes = is_word bytes && nat_lt (rank_of bytes) COUNT_END
 
 -- the size is looked at first
 unfoldable pub name_in : List ℕ → Result Name NameFault

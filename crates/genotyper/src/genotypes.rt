@@ -2,6 +2,7 @@
 
 ghost use Rattle.std.specs.Prelude.{◌≡◌, ◌==◌, ◌++◌, ◌∷◌, ◌+◌, ◌<◌, ◌≤◌, ◌^◌, [], All, IfSome, List, None, OnOk, length, nat_eq, unwrap_or, ℕ};
 ghost use Rattle.std.specs.HashMap.{get, spare as map_spare};
+ghost use Rattle.tierra_model.specs.declared.limits.TheConstants.{COUNT_END, MOST_SIZE};
 ghost use Rattle.tierra_model.specs.Counting.{one_if};
 ghost use Rattle.tierra_model.specs.World.{genotype_at};
 ghost use Rattle.tierra_model.specs.Individuals.{genotype_number, with_effort, with_effort_of, with_individual, with_one_more};
@@ -30,7 +31,7 @@ struct Details {
 impl Details {
     /// With one more individual.
     fn raised(self) -> Details
-        requires { self.total < 2 ^ 60 }
+        requires { self.total < COUNT_END }
         ensures raised { result ≡ record self { total = self.total + 1 } }
     {
         Details {
@@ -41,7 +42,8 @@ impl Details {
 
     /// After daughter number `bred` of a mother that has the genotype.
     fn noted(self, bred: u64, effort: Effort) -> Details
-        ensures noted { (code : List ℕ) → genotype_of (code, result) ≡ with_effort bred effort (genotype_of (code, self)) }
+        ensures noted { (code : List ℕ)
+            → genotype_of (code, result) ≡ with_effort bred effort (genotype_of (code, self)) }
         ensures rank { result.rank ≡ self.rank }
     {
         match bred {
@@ -123,7 +125,7 @@ impl Genotypes {
         requires { number < length self.now.genotypes }
         ensures genotype { genotype_at self.now.genotypes number ≡ genotype_of (result.0.now, result.1.now) }
         ensures rank { result.1.now.rank ≡ number_before (length result.0.now) self.now.genotypes number }
-        ensures short { length result.0.now ≤ 20000 }
+        ensures short { length result.0.now ≤ MOST_SIZE }
     {
         self.entries.get_index(number as usize).unwrap()
     }
@@ -212,7 +214,8 @@ impl Genotypes {
     pub fn note_birth(&mut self, code: Code, parent: Option<u64>, q: u64) -> u64
         requires room { 0 < self.old.spare }
         requires code { IsCode code }
-        requires count { IfSome (genotype_number code self.old.genotypes) (λ k. (genotype_at self.old.genotypes k).total < 2 ^ 60) }
+        requires count { IfSome (genotype_number code self.old.genotypes)
+            (λ k. (genotype_at self.old.genotypes k).total < COUNT_END) }
         ensures genotypes { self.new.genotypes ≡ (with_individual self.old.genotypes code parent q).0 }
         ensures number { result ≡ (with_individual self.old.genotypes code parent q).1 }
         ensures room { self.old.spare ≤ self.new.spare + 1 }
@@ -229,7 +232,7 @@ impl Genotypes {
     #[tactic(auto, using(crate::proofs::Births::again))]
     fn note_again(&mut self, number: u64)
         requires there { number < length self.old.genotypes }
-        requires count { (genotype_at self.old.genotypes number).total < 2 ^ 60 }
+        requires count { (genotype_at self.old.genotypes number).total < COUNT_END }
         ensures genotypes { self.new.genotypes ≡ with_one_more number self.old.genotypes }
         ensures room { self.new.spare ≡ self.old.spare }
     {
@@ -267,7 +270,8 @@ fn count_one(sizes: &mut HashMap<u32, u64>, size: u32) -> u64
     requires room { 0 < map_spare sizes.old }
     requires count { unwrap_or (get nat_eq sizes.old size) 0 < 2 ^ 63 }
     ensures before { result ≡ unwrap_or (get nat_eq sizes.old size) 0 }
-    ensures counts { (s : ℕ) → unwrap_or (get nat_eq sizes.new s) 0 ≡ unwrap_or (get nat_eq sizes.old s) 0 + one_if (size == s) }
+    ensures counts { (s : ℕ)
+        → unwrap_or (get nat_eq sizes.new s) 0 ≡ unwrap_or (get nat_eq sizes.old s) 0 + one_if (size == s) }
     ensures room { map_spare sizes.old ≤ map_spare sizes.new + 1 }
 {
     let count = sizes.get(&size).copied().unwrap_or(0);

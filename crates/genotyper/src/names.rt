@@ -104,7 +104,7 @@ fn size_in(digits: &[u8]) -> Option<u32>
         return None;
     }
     let size = value_in(10, b'0', digits);
-    if 1 <= size && size <= 20000 {
+    if 1 <= size && size <= u64::from(MOST_SIZE) {
         Some(size as u32)
     } else {
         None
@@ -119,7 +119,7 @@ fn rank_in(bytes: &[u8]) -> Option<u64>
         return None;
     }
     let rank = shorter_words(bytes.len() - 3) + value_in(26, b'a', bytes);
-    if rank < 1 << 60 { Some(rank) } else { None }
+    if rank < COUNT_END { Some(rank) } else { None }
 }
 
 fn is_word(bytes: &[u8]) -> bool
@@ -138,7 +138,7 @@ fn are_lowercase(bytes: &[u8]) -> bool
 fn shorter_words(more: usize) -> u64
     requires { more ≤ 10 }
     ensures value { result ≡ shorter_words more }
-    ensures fits { result < 2 ^ 60 }
+    ensures fits { result < COUNT_END }
 {
     let mut all = 0;
     let mut words = 17576;

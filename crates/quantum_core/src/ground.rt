@@ -1,6 +1,7 @@
 //! What a quantum runs on.
 
 ghost use Rattle.std.specs.Prelude.{◌≡◌, ◌+◌, ◌<◌, ◌≤◌, ℕ, IsSome, None, OnErr, OnOk, Option, Some, length};
+ghost use Rattle.tierra_model.specs.declared.limits.TheConstants.{MOST_SIZE};
 ghost use Rattle.tierra_model.specs.declared.events.Event.TheVariants as event;
 ghost use Rattle.tierra_model.specs.Draw.{word};
 ghost use Rattle.tierra_model.specs.Quantum.{Machine, flip, victim};
@@ -43,7 +44,7 @@ pub trait Ground {
     fn room_for(&self, size: u32) -> Option<u32>
         requires ready { Ready self.now 0 }
         requires one { 1 ≤ size }
-        requires few { size ≤ 20000 }
+        requires few { size ≤ MOST_SIZE }
         ensures { result ≡ room_for (frame self.now).settings (Machine.owned machine (state self.now)) size };
 
     /// How many creatures are in the reaper queue.
@@ -142,9 +143,11 @@ pub trait Ground {
         requires ready { Ready self.old 1 }
         requires none { (Machine.front machine (state self.old)).daughter ≡ None }
         requires one { 1 ≤ block.size }
-        requires few { block.size ≤ 20000 }
-        requires room { room_for (frame self.old).settings (Machine.owned machine (state self.old)) block.size ≡ Some block.at }
-        ensures state { OnOk result (state self.new ≡ Machine.apply machine (state self.old) (event.Mal block.at block.size)) }
+        requires few { block.size ≤ MOST_SIZE }
+        requires room { room_for (frame self.old).settings (Machine.owned machine (state self.old)) block.size
+            ≡ Some block.at }
+        ensures state { OnOk result (state self.new
+            ≡ Machine.apply machine (state self.old) (event.Mal block.at block.size)) }
         ensures frame { OnOk result (frame self.new ≡ frame self.old) }
         ensures ready { OnOk result ((n : ℕ) → Ready self.old (n + 1) → Ready self.new n) }
         ensures err { OnErr result Refusal };

@@ -84,7 +84,8 @@ fn is_disturbed(every: u32, quantum: u64) -> bool
 // So often the first creature of the reaper queue other than the one that runs dies, while there is one.
 fn reap_times<G: Ground>(ground: &mut G, times: u64) -> Result<(), OutOfMemory>
     requires { G.Ready ground.old 0 }
-    ensures state { OnOk result (G.state ground.new ≡ reap_times G.machine (G.frame ground.old).settings times (G.state ground.old)) }
+    ensures state { OnOk result (G.state ground.new
+        ≡ reap_times G.machine (G.frame ground.old).settings times (G.state ground.old)) }
     ensures frame { OnOk result (G.frame ground.new ≡ G.frame ground.old) }
     ensures ready { OnOk result ((n : ℕ) → G.Ready ground.old n → G.Ready ground.new n) }
     ensures err { OnErr result G.Refusal }
@@ -128,7 +129,8 @@ fn divide<G: Ground>(ground: &mut G) -> Result<(), OutOfMemory>
     requires ready { G.Ready ground.old 3 }
     requires held { IsSome (Machine.front G.machine (G.state ground.old)).daughter }
     requires ran { 1 ≤ (Machine.front G.machine (G.state ground.old)).ran }
-    ensures state { OnOk result (G.state ground.new ≡ perform G.machine (G.frame ground.old).settings act.Divide (G.state ground.old)) }
+    ensures state { OnOk result (G.state ground.new
+        ≡ perform G.machine (G.frame ground.old).settings act.Divide (G.state ground.old)) }
     ensures frame { OnOk result (G.frame ground.new ≡ G.frame ground.old) }
     ensures ready { OnOk result ((n : ℕ) → G.Ready ground.old (n + 3) → G.Ready ground.new n) }
     ensures err { OnErr result G.Refusal }

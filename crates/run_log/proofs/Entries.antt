@@ -1,5 +1,5 @@
 -- The entries of a log keep the counts of its records.
-use Rattle.std.proofs.Common.{◌≡◌, ◌≤◌, ◌<◌, ◌+◌, ◌-◌, ◌^◌, ◌∙◌, ℕ, zero, suc, Bool, true, false, cond, List, [], ◌∷◌, ◌++◌, ap, sym, refl, arith, inl, inr, length, take, get_or, subst}
+use Rattle.std.proofs.Common.{◌≡◌, ◌≤◌, ◌<◌, ◌+◌, ◌-◌, ◌∙◌, ℕ, zero, suc, Bool, true, false, cond, List, [], ◌∷◌, ◌++◌, ap, sym, refl, arith, inl, inr, length, take, get_or, subst}
 use Rattle.std.specs.Prelude.{All, count_by, filter, fold, map, nat_le, not, ◌==◌}
 use Rattle.std.specs.List.{range_with_len}
 use Rattle.std.specs.List.Sorted.{IsPartitionPoint}
@@ -8,6 +8,7 @@ use Rattle.std.proofs.lemmas.List.FromFn.{length-range_with_len}
 use Rattle.std.proofs.lemmas.List.Sorted.{IsNonDecreasingBy-push}
 use Rattle.std.proofs.lemmas.List.Sums.{count_by-le-length, fold-append, length-filter, sum_by-append}
 use Rattle.std.proofs.lemmas.Bool.Decides.{eqb_tells, leb_tells}
+use Rattle.tierra_model.specs.declared.limits.TheConstants.{COUNT_END}
 use Rattle.tierra_model.specs.Counting.{one_if, times_in}
 use Rattle.tierra_model.proofs.Owners.{times_in-append}
 use Rattle.run_log.specs.declared.log.Entry.{Entry}
@@ -74,7 +75,7 @@ living-few inoculated records = omega (arith, go (range_with_len 1 inoculated) r
 
 -- ---- what is kept
 
-pub kept-none : (inoculated : ℕ) → inoculated < 2 ^ 60 → IsKept inoculated []
+pub kept-none : (inoculated : ℕ) → inoculated < COUNT_END → IsKept inoculated []
 kept-none inoculated few =
     record {
       few = few;

@@ -1,5 +1,5 @@
 -- The records of a run count its worlds.
-use Rattle.std.proofs.Common.{◌≡◌, ◌≤◌, ◌<◌, ◌+◌, ◌-◌, ◌^◌, ◌∙◌, ℕ, zero, suc, Bool, true, false, cond, List, [], ◌∷◌, ◌++◌, add-one, ap, sym, refl, arith, length, subst, get_or}
+use Rattle.std.proofs.Common.{◌≡◌, ◌≤◌, ◌<◌, ◌+◌, ◌-◌, ◌∙◌, ℕ, zero, suc, Bool, true, false, cond, List, [], ◌∷◌, ◌++◌, add-one, ap, sym, refl, arith, length, subst, get_or}
 use Rattle.std.specs.Prelude.{All, None, count_by, filter, fold, map, nat_le, not, ◌==◌}
 use Rattle.std.specs.List.{flat_map, range_with_len}
 use Rattle.std.proofs.lemmas.Bool.Decides.{nat_tests}
@@ -8,6 +8,7 @@ use Rattle.std.proofs.lemmas.List.Concat.{flat_map-append}
 use Rattle.std.proofs.lemmas.List.Elements.{All-append, All-map, filter-append}
 use Rattle.std.proofs.lemmas.List.FromFn.{length-range_with_len, map-range_with_len_more}
 use Rattle.std.proofs.lemmas.List.Sums.{fold-append, sum_by-append}
+use Rattle.tierra_model.specs.declared.limits.TheConstants.{COUNT_END, MOST_QUANTA}
 use Rattle.tierra_model.specs.declared.creatures.Creature.{Creature}
 use Rattle.tierra_model.specs.declared.setups.Inoculum.{Inoculum}
 use Rattle.tierra_model.specs.Counting.{one_if, times_in}
@@ -211,7 +212,7 @@ tracks-start setup h =
 
 -- ---- every world
 
-pub run-tracks : (setup : SetupFields) (n : ℕ) → IsSetup setup → n ≤ 4000000 → Tracks (length (start setup).living) n (run_records setup n) (serial setup n)
+pub run-tracks : (setup : SetupFields) (n : ℕ) → IsSetup setup → n ≤ MOST_QUANTA → Tracks (length (start setup).living) n (run_records setup n) (serial setup n)
 run-tracks setup zero h few =
     subst (λ (rs : List Record). Tracks (length (start setup).living) 0 rs (serial setup 0)) (sym (run-none setup))
     (subst (λ (w : World). Tracks (length (start setup).living) 0 [] w) (sym (serial-none setup)) (tracks-start setup h))
@@ -226,7 +227,7 @@ run-tracks setup (suc n) h few =
     (subst (λ (rs : List Record). Tracks (length (start setup).living) (n + 1) rs w) (sym (run-more setup n)) t)
 
 -- what is later does not count
-up_to-more : (setup : SetupFields) (q k : ℕ) → IsSetup setup → q + k ≤ 4000000 → up_to q (run_records setup (q + k)) ≡ run_records setup q
+up_to-more : (setup : SetupFields) (q k : ℕ) → IsSetup setup → q + k ≤ MOST_QUANTA → up_to q (run_records setup (q + k)) ≡ run_records setup q
 up_to-more setup q zero h few =
     let p : Record → Bool = λ (r : Record). nat_le (quantum_of r) q in
     let all = (run-tracks setup q h (omega arith)).up_to_q in
@@ -256,7 +257,7 @@ up_to-more setup q (suc k) h few =
     next q k = omega arith
 
 -- the counts of the records up to a quantum are those of the world after it
-pub points-are : (setup : SetupFields) (n q : ℕ) → IsSetup setup → n ≤ 4000000 → q ≤ n
+pub points-are : (setup : SetupFields) (n q : ℕ) → IsSetup setup → n ≤ MOST_QUANTA → q ≤ n
     → point_of (length (start setup).living) (up_to q (run_records setup n)) ≡ counts_of (serial setup q)
 points-are setup n q h few below =
     let whole : q + (n - q) ≡ n = omega arith in
@@ -286,7 +287,7 @@ pub record IsTurn (setup : SetupFields) (n : ℕ) (v w : World) : Type 0 where
   pub later : IsLater v w
   pub tracks : Tracks (length (start setup).living) n (run_records setup n) v
 
-pub is-turn : (setup : SetupFields) (n : ℕ) (v w : World) → IsSetup setup → n + 1 ≤ 4000000 → v ≡ serial setup n → w ≡ quantum v → IsTurn setup n v w
+pub is-turn : (setup : SetupFields) (n : ℕ) (v w : World) → IsSetup setup → n + 1 ≤ MOST_QUANTA → v ≡ serial setup n → w ≡ quantum v → IsTurn setup n v w
 is-turn setup n v w h few before next =
     let after : w ≡ serial setup (n + 1) = next ∙ ap quantum before ∙ sym (serial-next setup n) in
     record {
@@ -298,7 +299,7 @@ is-turn setup n v w h few before next =
       tracks = subst (λ (u : World). Tracks (length (start setup).living) n (run_records setup n) u) (sym before) (run-tracks setup n h (omega arith));
     }
 
-pub turn-order : (setup : SetupFields) (n : ℕ) (rs : List Record) → IsSetup setup → n + 1 ≤ 4000000 → rs ≡ run_records setup n → All (λ r. quantum_of r ≤ n + 1) rs
+pub turn-order : (setup : SetupFields) (n : ℕ) (rs : List Record) → IsSetup setup → n + 1 ≤ MOST_QUANTA → rs ≡ run_records setup n → All (λ r. quantum_of r ≤ n + 1) rs
 turn-order setup n rs h few is = λ k d below. (
     let t = (run-tracks setup n h (omega arith)).up_to_q in
     let all : All (λ r. quantum_of r ≤ n) rs = subst (All (λ r. quantum_of r ≤ n)) (sym is) t in
@@ -327,9 +328,9 @@ pub record IsAt (setup : SetupFields) (n : ℕ) (v : World) : Type 0 where
   pub sound : IsSound v
   pub quanta : v.quanta ≡ n
   pub tracks : Tracks (length (start setup).living) n (run_records setup n) v
-  pub few : length (start setup).living + v.births < 2 ^ 60
+  pub few : length (start setup).living + v.births < COUNT_END
 
-pub is-at : (setup : SetupFields) (n : ℕ) (v : World) → IsSetup setup → n ≤ 4000000 → v ≡ serial setup n → IsAt setup n v
+pub is-at : (setup : SetupFields) (n : ℕ) (v : World) → IsSetup setup → n ≤ MOST_QUANTA → v ≡ serial setup n → IsAt setup n v
 is-at setup n v h few is =
     let r : IsSerialRun setup n = serial_is_sound setup n h few in
     let sound : IsSound v = subst IsSound (sym is) r.sound in

@@ -1,6 +1,7 @@
 -- The entries of a log: records, each with the counts after it.
-use Rattle.std.specs.Prelude.{List, length, map, slice_index_or, take, ℕ, ◌+◌, ◌<◌, ◌^◌, ◌≡◌, ◌≤◌}
+use Rattle.std.specs.Prelude.{List, length, map, slice_index_or, take, ℕ, ◌+◌, ◌<◌, ◌≡◌, ◌≤◌}
 use Rattle.std.specs.List.Sorted.{IsNonDecreasingBy}
+use Rattle.tierra_model.specs.declared.limits.TheConstants.{COUNT_END}
 use Rattle.tierra_model.specs.Counting.{times_in}
 use Rattle.run_log.specs.declared.log.Entry.{Entry}
 use Rattle.run_log.specs.declared.record.Record.{Record}
@@ -10,7 +11,7 @@ abbrev pub records_of : List Entry → List Record
 records_of entries = map (λ e. e.note) entries
 
 pub record IsKept (inoculated : ℕ) (entries : List Entry) : Type 0 where
-  pub few : inoculated < 2 ^ 60
+  pub few : inoculated < COUNT_END
   -- quanta never fall
   pub risen : IsNonDecreasingBy (λ e. quantum_of e.note) entries
   -- nobody lives twice

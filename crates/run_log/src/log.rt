@@ -1,7 +1,8 @@
 //! The log of a run.
 
-ghost use Rattle.std.specs.Prelude.{All, ◌≡◌, ◌+◌, ◌<◌, ◌≤◌, ◌^◌, [], ◌∷◌, ◌++◌, OnOk, Some, false, length, nat_le, slice_get, take, true};
+ghost use Rattle.std.specs.Prelude.{All, ◌≡◌, ◌+◌, ◌<◌, ◌≤◌, [], ◌∷◌, ◌++◌, OnOk, Some, false, length, nat_le, slice_get, take, true};
 ghost use Rattle.std.specs.List.Sorted.{IsNonDecreasingBy, IsPartitionPoint};
+ghost use Rattle.tierra_model.specs.declared.limits.TheConstants.{COUNT_END};
 ghost use Rattle.tierra_model.specs.Counting.{times_in};
 ghost use Rattle.run_log.specs.declared.record.Record.TheVariants as record_of;
 ghost use Rattle.run_log.specs.Records.{living_in, point_of, quantum_of, up_to};
@@ -52,7 +53,7 @@ impl Model for Log {
 impl Log {
     /// A log with no records, in which the birth numbers 1 to `inoculated` live. It takes no memory.
     pub fn new(alloc: Global, inoculated: u64) -> Log
-        requires { inoculated < 2 ^ 60 }
+        requires { inoculated < COUNT_END }
         ensures inoculated { result.inoculated ≡ inoculated }
         ensures records { result.records ≡ [] }
     {

@@ -1,7 +1,8 @@
 //! The curve of a run.
 
-ghost use Rattle.std.specs.Prelude.{All, ◌≡◌, ◌+◌, ◌-◌, ◌<◌, ◌≤◌, ◌^◌, ◌++◌, ◌∷◌, [], ℕ, IfOk, OnOk, filter, if◌then◌else◌, length, map, not};
+ghost use Rattle.std.specs.Prelude.{All, ◌≡◌, ◌+◌, ◌-◌, ◌<◌, ◌≤◌, ◌++◌, ◌∷◌, [], ℕ, IfOk, OnOk, filter, if◌then◌else◌, length, map, not};
 ghost use Rattle.std.specs.List.{flat_map, range_with_len};
+ghost use Rattle.tierra_model.specs.declared.limits.TheConstants.{COUNT_END, MOST_QUANTA};
 ghost use Rattle.tierra_model.specs.Counting.{times_in};
 ghost use Rattle.tierra_model.specs.Serial.{serial};
 ghost use Rattle.tierra_model.specs.Setups.{IsSetup};
@@ -18,7 +19,7 @@ use world_core::World;
 
 /// The text of a run's births and deaths, and of its counts at each multiple of `every` and at the end.
 pub fn curve(alloc: Global, setup: &Setup, quanta: u64, every: u64) -> Result<Text, OutOfMemory>
-    requires few { quanta ≤ 4000000 }
+    requires few { quanta ≤ MOST_QUANTA }
     requires some { 1 ≤ every }
     ensures { IfOk result (λ text. text ≡ curve_text setup.now quanta every) }
 {
@@ -31,7 +32,7 @@ pub fn curve(alloc: Global, setup: &Setup, quanta: u64, every: u64) -> Result<Te
 
 // The births and deaths of the first `quanta` quanta.
 fn log_of_run(alloc: Global, setup: &Setup, quanta: u64) -> Result<Log, OutOfMemory>
-    requires { quanta ≤ 4000000 }
+    requires { quanta ≤ MOST_QUANTA }
     ensures records { IfOk result (λ log. log.records ≡ run_records setup.now quanta) }
     ensures counts { IfOk result (λ log. (q : ℕ) → q ≤ quanta → point_of log.inoculated (up_to q log.records) ≡ counts_of (serial setup.now q)) }
 {
@@ -62,7 +63,7 @@ fn count_of(setup: &Setup) -> u64
 
 // The numbers from 1 on.
 fn numbers(alloc: Global, count: u64) -> Result<Vec<u64>, OutOfMemory>
-    requires { count < 2 ^ 60 }
+    requires { count < COUNT_END }
     ensures { IfOk result (λ v. v.items ≡ range_with_len 1 count) }
 {
     let mut items = Vec::new(alloc);
@@ -198,7 +199,7 @@ fn add_points(
     quanta: u64,
     every: u64,
 ) -> Result<(), OutOfMemory>
-    requires few { quanta ≤ 4000000 }
+    requires few { quanta ≤ MOST_QUANTA }
     requires some { 1 ≤ every }
     ensures { OnOk result (text.new.items ≡ text.old.items ++ flat_map (λ q. point_line q (point_of log.now.inoculated (up_to q log.now.records))) (shown quanta every)) }
 {

@@ -1,6 +1,7 @@
 //! Schedules are played.
 
 ghost use Rattle.std.specs.Prelude.{◌≡◌, ◌+◌, ◌-◌, ◌<◌, ◌≤◌, ◌^◌, [], All, IfOk, OnOk, Some};
+ghost use Rattle.tierra_model.specs.declared.limits.TheConstants.{MOST_QUANTA};
 ghost use Rattle.tierra_model.specs.Findings.{finding_of};
 ghost use Rattle.commit_book.specs.Books.{after_commits, world_of};
 ghost use Rattle.schedule_drill.specs.AtBook.{FitsBook, IsOfRun, answers};
@@ -55,7 +56,7 @@ pub fn play(
     quanta: u64,
     moves: &MoveList,
 ) -> Result<Played, OutOfMemory>
-    requires quanta { (1 ≤ quanta) × (quanta ≤ 4000000) }
+    requires quanta { (1 ≤ quanta) × (quanta ≤ MOST_QUANTA) }
     requires hands { All IsOfHand moves.now }
     ensures book { IfOk result (λ p. p.book ≡ (drill setup quanta moves.now).book) }
     ensures setup { IfOk result (λ p. p.book.setup ≡ setup) }
@@ -73,7 +74,7 @@ fn counted_play<L: Ledger>(
     moves: &MoveList,
     blank: Blank,
 ) -> Result<Played, OutOfMemory>
-    requires quanta { (1 ≤ quanta) × (quanta ≤ 4000000) }
+    requires quanta { (1 ≤ quanta) × (quanta ≤ MOST_QUANTA) }
     requires hands { All IsOfHand moves.now }
     requires name { blank.name ≡ L.name }
     requires parts { blank.parts ≡ L.parts }
@@ -94,7 +95,7 @@ fn counted_play<L: Ledger>(
 impl Drill {
     // The hands are empty.
     fn begin(alloc: Global, setup: Setup, quanta: u64) -> Result<Drill, OutOfMemory>
-        requires quanta { (1 ≤ quanta) × (quanta ≤ 4000000) }
+        requires quanta { (1 ≤ quanta) × (quanta ≤ MOST_QUANTA) }
         ensures { IfOk result (λ d. d ≡ first_drill setup quanta) }
     {
         let book = Book::begin(alloc, setup, quanta, WINDOW)?;

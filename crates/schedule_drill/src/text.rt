@@ -3,6 +3,7 @@
 ghost use Rattle.std.specs.Prelude.{◌≡◌, ◌≤◌, ◌++◌, IfOk, OnOk, string_bytes};
 ghost use Rattle.std.specs.Fmt.{decimal};
 ghost use Rattle.schedule_drill.specs.Text.{drill_text, tally_text};
+ghost use Rattle.tierra_model.specs.declared.limits.TheConstants.{MOST_QUANTA};
 
 use crate::drill::play;
 use crate::moves::moves_from;
@@ -19,7 +20,7 @@ pub fn drill_text(
     quanta: u64,
     number: u64,
 ) -> Result<Text, OutOfMemory>
-    requires quanta { (1 ≤ quanta) × (quanta ≤ 4000000) }
+    requires quanta { (1 ≤ quanta) × (quanta ≤ MOST_QUANTA) }
     ensures { IfOk result (λ text. text ≡ drill_text setup quanta number) }
 {
     let moves = moves_from(alloc, number, quanta)?;

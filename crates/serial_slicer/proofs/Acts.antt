@@ -1,6 +1,7 @@
 -- What is done after a step, act by act.
 use Rattle.std.proofs.Common.{◌≡◌, ◌⊎◌, inl, inr, ℕ, ◌≤◌, sym, ◌∙◌, ap, subst}
 use Rattle.std.specs.Prelude.{IsSome}
+use Rattle.tierra_model.specs.declared.limits.TheConstants.{MOST_SIZE}
 use Rattle.tierra_model.specs.declared.creatures.Creature.{Creature}
 use Rattle.tierra_model.specs.declared.events.Act.{Act}
 use Rattle.tierra_model.specs.declared.events.Act.TheVariants as act
@@ -82,7 +83,7 @@ module _ (s : Settings) (q i : ℕ) (c e : Creature) (v u : SoleFields) (a : Act
   pub mal_put_in : (size : ℕ) → a ≡ act.Mal size → IsPutIn e u
   mal_put_in size is = (let k = (of (act.Mal size) is).can in put_in e u k.0 k.1)
 
-  pub mal_size : (size : ℕ) → a ≡ act.Mal size → (1 ≤ size) × (size ≤ 20000)
+  pub mal_size : (size : ℕ) → a ≡ act.Mal size → (1 ≤ size) × (size ≤ MOST_SIZE)
   mal_size size is = (let k = (of (act.Mal size) is).can in (k.2, k.3))
 
   pub mal_is : (size : ℕ) → a ≡ act.Mal size → mal world_machine u.world.settings size (put e u.world) ≡ Next s q i c v

@@ -1,7 +1,8 @@
 -- The record of the creature at the front, put back as it is or as it has become.
-use Rattle.std.proofs.Common.{◌≡◌, ℕ, suc, ◌+◌, ◌<◌, ◌≤◌, ◌^◌, true, List, [], ◌∷◌, refl, sym, ◌∙◌, ap, subst, arith, length}
+use Rattle.std.proofs.Common.{◌≡◌, ℕ, suc, ◌+◌, ◌<◌, ◌≤◌, true, List, [], ◌∷◌, refl, sym, ◌∙◌, ap, subst, arith, length}
 use Rattle.std.specs.Prelude.{All, IfSome}
 use Rattle.std.proofs.lemmas.Bool.Decides.{nat_tests}
+use Rattle.tierra_model.specs.declared.limits.TheConstants.{COUNT_END}
 use Rattle.tierra_model.specs.declared.creatures.Creature.{Creature}
 use Rattle.tierra_model.specs.Counting.{one_if, times_in}
 use Rattle.tierra_model.specs.Ranges.{IsBlock}
@@ -65,7 +66,7 @@ running-put c w r f =
           let own : owners_of c p ≡ owners_of (front w) p = (λ i. let n : ℕ = one_if (is_in (f.own i) p) + one_if (is_in_daughter (f.daughter i) p) in n) in
           omega (arith, owners-put c w p l r.once same, own, r.apart p));
       genotype = all-with (λ (d : Creature). d.genotype < length w.genotypes) c w.living (rw (f.genotype) (front_genotype w r)) r.genotype;
-      small = all-with (λ (d : Creature). (d.errors < 2 ^ 60) × (d.bred < 2 ^ 60)) c w.living (rw (f.errors) small.0, rw (f.bred) small.1) r.small;
+      small = all-with (λ (d : Creature). (d.errors < COUNT_END) × (d.bred < COUNT_END)) c w.living (rw (f.errors) small.0, rw (f.bred) small.1) r.small;
       written = r.written;
       totals = r.totals;
       births = r.births;

@@ -1,6 +1,7 @@
 -- What is left to do after a step, and what holds of the record and of the world then.
-use Rattle.std.proofs.Common.{◌≡◌, ℕ, ◌+◌, ◌<◌, ◌≤◌, ◌^◌, refl, sym, ◌∙◌, ap, subst, arith, length}
+use Rattle.std.proofs.Common.{◌≡◌, ℕ, ◌+◌, ◌<◌, ◌≤◌, refl, sym, ◌∙◌, ap, subst, arith, length}
 use Rattle.std.specs.Prelude.{IsSome, slice_index, slice_set, ◌||◌}
+use Rattle.tierra_model.specs.declared.limits.TheConstants.{COUNT_END, MOST_SIZE}
 use Rattle.tierra_model.specs.declared.creatures.Creature.{Creature}
 use Rattle.tierra_model.specs.declared.events.Act.{Act}
 use Rattle.tierra_model.specs.declared.events.Act.TheVariants as act
@@ -65,7 +66,7 @@ abbrev pub CanBeDone : Act → Creature → SoleFields → Type 0
 CanBeDone act.Plain c u = IsTurn c u
 CanBeDone (act.Wrote at value) c u = IsTurn c u
 CanBeDone act.Erred c u = IsTurn c (record u { world = apply_event u.world event.Err }) × IsRunning u.world
-CanBeDone (act.Mal size) c u = Shares (front u.world) c × InQuantum (put c u.world) × (1 ≤ size) × (size ≤ 20000)
+CanBeDone (act.Mal size) c u = Shares (front u.world) c × InQuantum (put c u.world) × (1 ≤ size) × (size ≤ MOST_SIZE)
 CanBeDone act.Divide c u = Shares (front u.world) c × InQuantum (put c u.world) × IsSome c.daughter × (1 ≤ c.ran)
 
 performed : (s : Settings) (a : Act) (c : Creature) (v : SoleFields) → HasFront v.world → c.id ≡ first_of v.world.slicer → Shares (front v.world) c
@@ -211,7 +212,7 @@ can_step s c v t k settings =
       sp = f.sp;
     }
 
-pub few_errors : (c : Creature) (w : World) → InQuantum (put c w) → Shares (front w) c → c.errors < 2 ^ 60
+pub few_errors : (c : Creature) (w : World) → InQuantum (put c w) → Shares (front w) c → c.errors < COUNT_END
 few_errors c w k f =
     let l : HasFront w = front-before c w k.within.population.has_front in
     let b = subst (InBounds k.settings.soup_size k.errors k.copies) (front-put c w l (f.id ∙ front-id w l))

@@ -1,5 +1,6 @@
 -- A world in its quantum stays in it through what a quantum does, instruction after instruction.
 use Rattle.std.proofs.Common.{◌≡◌, ℕ, zero, suc, add-one, ◌+◌, ◌*◌, ◌<◌, ◌≤◌, refl, ◌∙◌, ap, arith}
+use Rattle.tierra_model.specs.declared.limits.TheConstants.{MOST_QUANTA}
 use Rattle.tierra_model.specs.declared.creatures.Creature.{Creature}
 use Rattle.tierra_model.specs.declared.events.Event.{Event}
 use Rattle.tierra_model.specs.declared.parameters.Settings.{Settings}
@@ -59,7 +60,7 @@ quantum-put c w k f h =
 
 -- ---- so many instructions of a quantum
 
-pub run-in_quantum : (w : World) (k : ℕ) → IsSound w → w.quanta < 4000000 → k ≤ 10000 → InQuantum (run world_machine w.settings (w.quanta + 1) k w)
+pub run-in_quantum : (w : World) (k : ℕ) → IsSound w → w.quanta < MOST_QUANTA → k ≤ 10000 → InQuantum (run world_machine w.settings (w.quanta + 1) k w)
 run-in_quantum w k s more few =
     let l : ℕ = count_limit w.quanta in
     record {
@@ -75,7 +76,7 @@ run-in_quantum w k s more few =
       few_quanta = omega arith;
     }
 
-pub sound-in_quantum : (w : World) → IsSound w → w.quanta < 4000000 → InQuantum w
+pub sound-in_quantum : (w : World) → IsSound w → w.quanta < MOST_QUANTA → InQuantum w
 sound-in_quantum w s more =
     let l : ℕ = count_limit w.quanta in
     record {
@@ -92,7 +93,7 @@ sound-in_quantum w s more =
     }
 
 -- the front's counts are small while a quantum of a sound world runs
-pub run-front : (w : World) (k : ℕ) → IsSound w → w.quanta < 4000000 → k ≤ 10000
+pub run-front : (w : World) (k : ℕ) → IsSound w → w.quanta < MOST_QUANTA → k ≤ 10000
     → InBounds w.settings.soup_size (count_limit w.quanta + k) (count_limit w.quanta + k) (front (run world_machine w.settings (w.quanta + 1) k w))
 run-front w k s more few =
     let l : ℕ = count_limit w.quanta in

@@ -2,6 +2,7 @@
 use Rattle.std.proofs.Common.{◌≡◌, ℕ, zero, suc, ◌+◌, ◌≤◌, List, [], ◌∷◌, refl, sym, ◌∙◌, ap, arith, length}
 use Rattle.std.specs.Prelude.{None, Option, Some, is_some}
 use Rattle.std.proofs.lemmas.Bool.Decides.{nat_tests}
+use Rattle.tierra_model.specs.declared.limits.TheConstants.{MOST_SIZE}
 use Rattle.tierra_model.specs.declared.creatures.Block.{Block}
 use Rattle.tierra_model.specs.declared.creatures.Creature.{Creature}
 use Rattle.tierra_model.specs.declared.events.Event.TheVariants as event
@@ -22,7 +23,7 @@ use Rattle.serial_slicer.specs.Turns.{InQuantum}
 use Rattle.serial_slicer.proofs.Quanta.{quantum-event}
 use Rattle.world_core.proofs.Within.{front_here}
 
-pub can-take : (w : World) (size at : ℕ) → (front w).daughter ≡ None → 1 ≤ size → size ≤ 20000
+pub can-take : (w : World) (size at : ℕ) → (front w).daughter ≡ None → 1 ≤ size → size ≤ MOST_SIZE
     → room_for w.settings (λ p. is_owned w.living p) size ≡ Some at → CanHappen w (event.Mal at size)
 can-take w size at none one few r =
     let f = room_for_free w.settings (λ p. is_owned w.living p) size at r in

@@ -1,5 +1,6 @@
 -- A serial run, quantum after quantum.
 use Rattle.std.proofs.Common.{◌≡◌, ℕ, zero, suc, add-one, ◌+◌, ◌≤◌, refl, sym, ◌∙◌, ap, arith}
+use Rattle.tierra_model.specs.declared.limits.TheConstants.{MOST_QUANTA}
 use Rattle.tierra_model.specs.Laws.{StaysSound}
 use Rattle.tierra_model.specs.Quantum.{quantum}
 use Rattle.std.specs.Prelude.{List, None, [], ◌∷◌}
@@ -41,7 +42,7 @@ pub record IsSoundAfter (n : ℕ) (w u : World) : Type 0 where
   pub settings : u.settings ≡ w.settings
   pub quanta : u.quanta ≡ w.quanta + n
 
-pub sound_after : (n : ℕ) (w : World) → IsSound w → w.quanta + n ≤ 4000000 → IsSoundAfter n w (after n w)
+pub sound_after : (n : ℕ) (w : World) → IsSound w → w.quanta + n ≤ MOST_QUANTA → IsSoundAfter n w (after n w)
 unfolding after
 sound_after zero w h few = record { sound = h; settings = refl; quanta = omega arith }
 sound_after (suc n) w h few =
@@ -49,7 +50,7 @@ sound_after (suc n) w h few =
     let q : StaysSound (after n w) = quantum_is_sound (after n w) r.sound (omega (arith, r.quanta)) in
     record { sound = q.sound; settings = q.settings ∙ r.settings; quanta = omega (arith, q.quanta, r.quanta) }
 
-pub sound_at : (n : ℕ) (w u : World) → IsSound w → w.quanta + n ≤ 4000000 → u ≡ after n w → IsSoundAfter n w u
+pub sound_at : (n : ℕ) (w u : World) → IsSound w → w.quanta + n ≤ MOST_QUANTA → u ≡ after n w → IsSoundAfter n w u
 sound_at n w u h few is =
     let r = sound_after n w h few in
     record {

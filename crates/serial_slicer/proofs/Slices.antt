@@ -1,6 +1,7 @@
 -- The slice of a sound world: what holds of it after so many instructions, with the record kept out of the world.
-use Rattle.std.proofs.Common.{◌≡◌, ℕ, ◌+◌, ◌<◌, ◌≤◌, ◌^◌, refl, sym, ◌∙◌, ap, subst, arith}
+use Rattle.std.proofs.Common.{◌≡◌, ℕ, ◌+◌, ◌<◌, ◌≤◌, refl, sym, ◌∙◌, ap, subst, arith}
 use Rattle.std.specs.Prelude.{None, Option, Some, slice_index}
+use Rattle.tierra_model.specs.declared.limits.TheConstants.{COUNT_END, MOST_QUANTA}
 use Rattle.tierra_model.specs.declared.creatures.Creature.{Creature}
 use Rattle.tierra_model.specs.declared.events.Event.{Event}
 use Rattle.tierra_model.specs.declared.events.Event.TheVariants as event
@@ -44,7 +45,7 @@ flipped s w (Some c) f k =
       quanta = refl;
     }
 
-module _ (s : Settings) (w : World) (sound : IsSound w) (more : w.quanta < 4000000) (settings : s ≡ w.settings) where
+module _ (s : Settings) (w : World) (sound : IsSound w) (more : w.quanta < MOST_QUANTA) (settings : s ≡ w.settings) where
   abbrev q : ℕ
   q = w.quanta + 1
 
@@ -92,7 +93,7 @@ module _ (s : Settings) (w : World) (sound : IsSound w) (more : w.quanta < 40000
     pub within_then : InQuantum (put c v)
     within_then = subst InQuantum (sym is) (within_run k few)
 
-    pub counts_then : (c.moved < 2 ^ 60) × (c.ran < 2 ^ 60)
+    pub counts_then : (c.moved < COUNT_END) × (c.ran < COUNT_END)
     counts_then =
         let l = front-before c v within_then.within.population.has_front in
         let now : front (put c v) ≡ c = front-put c v l (shares.id ∙ front-id v l) in

@@ -6,6 +6,7 @@ mod slice;
 mod sole;
 
 ghost use Rattle.std.specs.Prelude.{◌≡◌, ◌+◌, ◌<◌, ◌≤◌, IfOk};
+ghost use Rattle.tierra_model.specs.declared.limits.TheConstants.{MOST_QUANTA};
 ghost use Rattle.tierra_model.specs.Serial.{serial};
 ghost use Rattle.serial_slicer.specs.Onward.{after};
 
@@ -20,7 +21,7 @@ use world_core::World;
 
 /// The world after the first `n` quanta.
 pub fn run_serial(alloc: Global, setup: &Setup, n: u64) -> Result<World, OutOfMemory>
-    requires { n ≤ 4000000 }
+    requires { n ≤ MOST_QUANTA }
     ensures { IfOk result (λ w. w.world ≡ serial setup.now n) }
 {
     run_on(alloc, World::start(alloc, setup)?, n)
@@ -28,7 +29,7 @@ pub fn run_serial(alloc: Global, setup: &Setup, n: u64) -> Result<World, OutOfMe
 
 /// The world after `n` more quanta.
 pub fn run_on(alloc: Global, world: World, n: u64) -> Result<World, OutOfMemory>
-    requires { world.world.quanta + n ≤ 4000000 }
+    requires { world.world.quanta + n ≤ MOST_QUANTA }
     ensures { IfOk result (λ w. w.world ≡ after n world.world) }
 {
     counted::<Brand>(alloc, world, n, Blank::new(1))
@@ -41,7 +42,7 @@ fn counted<L: Ledger>(
     n: u64,
     blank: Blank,
 ) -> Result<World, OutOfMemory>
-    requires few { world.world.quanta + n ≤ 4000000 }
+    requires few { world.world.quanta + n ≤ MOST_QUANTA }
     requires name { blank.name ≡ L.name }
     requires parts { blank.parts ≡ L.parts }
     requires some { 0 < L.parts }

@@ -1,6 +1,7 @@
 //! Room for a daughter, and the deaths that make it.
 
 ghost use Rattle.std.specs.Prelude.{◌≡◌, ◌≤◌, None, OnOk, Some};
+ghost use Rattle.tierra_model.specs.declared.limits.TheConstants.{MOST_SIZE};
 ghost use Rattle.tierra_model.specs.Quantum.{give_up, make_room, mal, reap, take_block, world_machine};
 ghost use Rattle.tierra_model.specs.Queue.{number_of_others};
 ghost use Rattle.tierra_model.specs.Room.{is_owned, room_for};
@@ -14,7 +15,7 @@ use tierra_model::{Block, OutOfMemory};
 pub(crate) fn mal(sole: &mut Sole, size: u32) -> Result<(), OutOfMemory>
     requires within { InQuantum sole.old.world }
     requires one { 1 ≤ size }
-    requires few { size ≤ 20000 }
+    requires few { size ≤ MOST_SIZE }
     ensures { OnOk result (sole.new.world ≡ mal world_machine sole.old.world.settings size sole.old.world) }
 {
     give_up(sole)?;
@@ -37,7 +38,7 @@ fn make_room(sole: &mut Sole, size: u32) -> Result<(), OutOfMemory>
     requires within { InQuantum sole.old.world }
     requires none { (front sole.old.world).daughter ≡ None }
     requires one { 1 ≤ size }
-    requires few { size ≤ 20000 }
+    requires few { size ≤ MOST_SIZE }
     ensures { OnOk result (sole.new.world ≡ make_room world_machine sole.old.world.settings size (number_of_others (front sole.old.world).id sole.old.world.reaper) sole.old.world) }
 {
     let others = sole.reaper_len() - 1;
@@ -61,7 +62,7 @@ fn take_block(sole: &mut Sole, block: Block) -> Result<(), OutOfMemory>
     requires within { InQuantum sole.old.world }
     requires none { (front sole.old.world).daughter ≡ None }
     requires one { 1 ≤ block.size }
-    requires few { block.size ≤ 20000 }
+    requires few { block.size ≤ MOST_SIZE }
     requires room { room_for sole.old.world.settings (λ p. is_owned sole.old.world.living p) block.size ≡ Some block.at }
     ensures { OnOk result (sole.new.world ≡ take_block world_machine sole.old.world.settings block.size block.at sole.old.world) }
 {

@@ -1,6 +1,7 @@
 //! One quantum.
 
-ghost use Rattle.std.specs.Prelude.{◌≡◌, ◌+◌, ◌<◌, ◌^◌, OnOk, IsSome, ◌≤◌};
+ghost use Rattle.std.specs.Prelude.{◌≡◌, ◌+◌, ◌<◌, OnOk, IsSome, ◌≤◌};
+ghost use Rattle.tierra_model.specs.declared.limits.TheConstants.{COUNT_END, MOST_QUANTA, MOST_SIZE};
 ghost use Rattle.tierra_model.specs.declared.events.Act.TheVariants as act;
 ghost use Rattle.tierra_model.specs.Draw.{word};
 ghost use Rattle.tierra_model.specs.Quantum.{disturb, instruction, is_disturbed, mal, perform, quantum, reap_times, world_machine};
@@ -29,7 +30,7 @@ pub(crate) fn run_quantum<L: Ledger>(
     steps: &mut Steps<L>,
 ) -> Result<(), OutOfMemory>
     requires sound { IsSound sole.old.world }
-    requires more { sole.old.world.quanta < 4000000 }
+    requires more { sole.old.world.quanta < MOST_QUANTA }
     requires settings { settings.now ≡ sole.old.world.settings }
     ensures { OnOk result (sole.new.world ≡ quantum sole.old.world) }
 {
@@ -94,8 +95,8 @@ fn instruction<L: Ledger>(
 ) -> Result<(), OutOfMemory>
     requires turn { IsTurn creature.old sole.old }
     requires within { InQuantum (put creature.old sole.old.world) }
-    requires moved { creature.old.moved < 2 ^ 60 }
-    requires ran { creature.old.ran < 2 ^ 60 }
+    requires moved { creature.old.moved < COUNT_END }
+    requires ran { creature.old.ran < COUNT_END }
     requires settings { settings.now ≡ sole.old.world.settings }
     requires draws { draws.now ≡ draws_of settings.now (sole.old.world.quanta + 1) }
     requires next { IsRunning (instruction world_machine settings.now (word settings.now.seed (sole.old.world.quanta + 1)) i (put creature.old sole.old.world)) }
@@ -120,7 +121,7 @@ fn grow(creature: &mut Creature, sole: &mut Sole, size: u32) -> Result<(), OutOf
     requires fits { RecordFits (front sole.old.world) creature.old }
     requires quantum { InQuantum (put creature.old sole.old.world) }
     requires one { 1 ≤ size }
-    requires few { size ≤ 20000 }
+    requires few { size ≤ MOST_SIZE }
     requires next { IsRunning (mal world_machine sole.old.world.settings size (put creature.old sole.old.world)) }
     ensures turn { OnOk result (IsTurn creature.new sole.new) }
     ensures world { OnOk result (put creature.new sole.new.world ≡ mal world_machine sole.old.world.settings size (put creature.old sole.old.world)) }

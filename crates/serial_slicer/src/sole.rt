@@ -1,6 +1,7 @@
 //! A world of which nobody has a version.
 
 ghost use Rattle.std.specs.Prelude.{◌≡◌, ◌<◌, ◌^◌, ◌≤◌, IfOk, IsSome, OnOk, length, slice_index};
+ghost use Rattle.tierra_model.specs.declared.limits.TheConstants.{MOST_SIZE};
 ghost use Rattle.tierra_model.specs.declared.events.Event.TheVariants as event;
 ghost use Rattle.tierra_model.specs.Draw.{back_flip, word};
 ghost use Rattle.tierra_model.specs.Events.{apply_event, turn_end as turn_end_of};
@@ -144,7 +145,7 @@ impl Sole {
     pub(crate) fn room_for(&self, size: u32) -> Option<u32>
         requires within { IsRunning self.now.world }
         requires one { 1 ≤ size }
-        requires few { size ≤ 20000 }
+        requires few { size ≤ MOST_SIZE }
         ensures { result ≡ room_for self.now.world.settings (λ p. is_owned self.now.world.living p) size }
     {
         self.running.room_for(size)

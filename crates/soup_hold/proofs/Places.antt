@@ -8,6 +8,7 @@ use Rattle.serial_slicer.proofs.Serials.{sound_after}
 use Rattle.soup_hold.specs.Steps.{IsWorldAfter}
 use Rattle.soup_hold.specs.Text.{held_quanta, world_at}
 use Rattle.soup_hold.proofs.Quanta.{count_of, first_number, held-at, length-held}
+use Rattle.tierra_model.specs.declared.limits.TheConstants.{MOST_QUANTA}
 use Rattle.tierra_model.specs.Quantum.{quantum}
 use Rattle.tierra_model.specs.Sound.{IsSound}
 use Rattle.tierra_model.specs.World.{World}
@@ -32,7 +33,7 @@ pub record IsOnTheWay (first w : World) (q : ℕ) : Type 0 where
 pub at_first : (first w : World) (q : ℕ) → IsSound first → w ≡ first → first.quanta ≤ q → IsOnTheWay first w q
 at_first first w q sound is later = rw is (record { settings = refl; sound = sound; later = later; on = refl })
 
-at_later : (first w : World) (p q : ℕ) → IsSound first → w ≡ world_at first p → first.quanta ≤ p → p ≤ q → q ≤ 4000000
+at_later : (first w : World) (p q : ℕ) → IsSound first → w ≡ world_at first p → first.quanta ≤ p → p ≤ q → q ≤ MOST_QUANTA
     → IsOnTheWay first w q
 at_later first w p q sound is from to few =
     let r = sound_after (p - first.quanta) first sound (omega (arith, from, to, few)) in
@@ -45,7 +46,7 @@ at_later first w p q sound is from to few =
       on = after-after (q - (world_at first p).quanta) (p - first.quanta) first ∙ ap (λ (k : ℕ). after k first) steps;
     })
 
-module _ (first : World) (sound : IsSound first) (every n : ℕ) (some : 0 < every) (within : first.quanta ≤ n) (few : n ≤ 4000000) where
+module _ (first : World) (sound : IsSound first) (every n : ℕ) (some : 0 < every) (within : first.quanta ≤ n) (few : n ≤ MOST_QUANTA) where
   abbrev quanta : List ℕ
   quanta = held_quanta every first.quanta n
 
@@ -65,7 +66,7 @@ module _ (first : World) (sound : IsSound first) (every n : ℕ) (some : 0 < eve
   held_there j q inside is = same_Some q (number j * every) (sym is ∙ held-at every first.quanta some n j (number j) inside refl)
 
   from_last : (j : ℕ) (w : World) (q : ℕ) → j ≤ count_of every first.quanta n → IsWorldAfter first quanta j w → first.quanta ≤ q
-      → q ≤ 4000000 → ((i : ℕ) → i + 1 ≡ j → number i * every ≤ q) → IsOnTheWay first w q
+      → q ≤ MOST_QUANTA → ((i : ℕ) → i + 1 ≡ j → number i * every ≤ q) → IsOnTheWay first w q
   from_last zero w q inside is from to past = at_first first w q sound is from
   from_last (suc i) w q inside is from to past =
       let there = held_there i is.0 (omega (arith, inside)) is.1 in
@@ -102,7 +103,7 @@ pub record IsNext (first w : World) (every n number place : ℕ) : Type 0 where
   pub way : IsOnTheWay first w (number * every)
 
 module _ (first : World) (sound : IsSound first) (every n m number : ℕ) (is : m ≡ first.quanta) (some : 0 < every)
-    (within : first.quanta ≤ n) (few : n ≤ 4000000) (begun : m / every + 1 ≤ number) where
+    (within : first.quanta ≤ n) (few : n ≤ MOST_QUANTA) (begun : m / every + 1 ≤ number) where
   pub is_next : number < n / every + 1 → (w : World)
       → IsWorldAfter first (held_quanta every first.quanta n) (number - (m / every + 1)) w
       → IsNext first w every n number (number - (m / every + 1))

@@ -13,6 +13,7 @@ ghost use Rattle.soup_hold.specs.Holding.{AppendedLess, CanHold, DiskHolds, Hold
 ghost use Rattle.soup_hold.specs.Steps.{Begins, HasHeld, HasStopped, IsLargeFirst};
 ghost use Rattle.soup_hold.specs.Stops.{CountsStops, IfRefused, UnlessTelling};
 ghost use Rattle.soup_hold.specs.Text.{held_quanta, hold_text, world_at};
+ghost use Rattle.tierra_model.specs.declared.limits.TheConstants.{MOST_QUANTA};
 ghost use Rattle.tierra_model.specs.Setups.{IsSetup};
 ghost use Rattle.tierra_model.specs.World.{World as WorldFields};
 
@@ -38,7 +39,7 @@ fn hold_each<D: Desk>(
     requires attached { IsAttached shelf (D.state desk.old) }
     requires settings { world.world.settings ≡ shelf.owner.settings }
     requires not_beyond { world.world.quanta ≤ quanta }
-    requires few { quanta ≤ 4000000 }
+    requires few { quanta ≤ MOST_QUANTA }
     requires every { 1 ≤ every }
     ensures held { IfOk result (λ w. (s : ShelfState) × HasHeld shelf.owner world.world (held_quanta every world.world.quanta quanta)
         (D.state desk.old) (D.state desk.new) (length (held_quanta every world.world.quanta quanta)) s w.world) }
@@ -63,7 +64,7 @@ fn hold_each<D: Desk>(
 // The report of the world that was run on to the last quantum.
 fn last_report(alloc: Global, world: World, quanta: u64) -> Result<Text, HoldStop>
     requires later { world.world.quanta ≤ quanta }
-    requires few { quanta ≤ 4000000 }
+    requires few { quanta ≤ MOST_QUANTA }
     ensures text { IfOk result (λ text. text ≡ report (after (quanta - world.world.quanta) world.world)) }
     ensures memory { IfErr result (λ s. s ≡ HoldStop.OutOfMemory) }
 {
@@ -84,7 +85,7 @@ fn hold_from<D: Desk>(
     requires attached { IsAttached shelf (D.state desk.old) }
     requires settings { world.world.settings ≡ shelf.owner.settings }
     requires not_beyond { world.world.quanta ≤ quanta }
-    requires few { quanta ≤ 4000000 }
+    requires few { quanta ≤ MOST_QUANTA }
     requires every { 1 ≤ every }
     ensures told { TellsText (D.state desk.old) (D.state desk.new) (hold_text world.world quanta every) result }
     ensures unfinished { IfErr result (λ s. UnlessTelling s
@@ -133,7 +134,7 @@ pub fn hold<D: Desk>(
     quanta: u64,
     every: u64,
 ) -> Result<(), HoldStop>
-    requires few { quanta ≤ 4000000 }
+    requires few { quanta ≤ MOST_QUANTA }
     requires every { 1 ≤ every }
     requires sound { HasNoFault (D.state desk.old) }
 

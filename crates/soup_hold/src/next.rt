@@ -9,6 +9,7 @@ ghost use Rattle.soup_hold.specs.Holding.{HoldsWorld};
 ghost use Rattle.soup_hold.specs.Steps.{HoldsNext, IsHoldingNext, IsLargeAt};
 ghost use Rattle.soup_hold.specs.Stops.{CountsStops, IfRefused};
 ghost use Rattle.soup_hold.specs.Text.{held_line};
+ghost use Rattle.tierra_model.specs.declared.limits.TheConstants.{MOST_QUANTA};
 
 use crate::stop::HoldStop;
 use desk_io::Desk;
@@ -91,7 +92,7 @@ pub(crate) fn hold_next<D: Desk>(
     requires attached { IsAttached shelf (D.state desk.old) }
     requires settings { world.world.settings ≡ shelf.owner.settings }
     requires later { world.world.quanta ≤ quantum }
-    requires few { quantum ≤ 4000000 }
+    requires few { quantum ≤ MOST_QUANTA }
     ensures world { IfOk result (λ x. x.1.world ≡ after (quantum - world.world.quanta) world.world) }
     ensures held { IfOk result (λ x. HoldsNext shelf (after (quantum - world.world.quanta) world.world) (D.state desk.old) (D.state desk.new) x.0) }
     ensures large { IfErr result (λ s. IfRefused s (IsLargeAt (after (quantum - world.world.quanta) world.world) quantum)) }

@@ -4,6 +4,7 @@ use Rattle.std.specs.Prelude.{All}
 use Rattle.std.proofs.lemmas.List.{get_or-map, length-map}
 use Rattle.std.proofs.lemmas.List.FromFn.{length-map-range_with_len}
 use Rattle.std.proofs.lemmas.List.Elements.{All-head, All-map, All-tail, All-weaker}
+use Rattle.tierra_model.specs.declared.limits.TheConstants.{MOST_QUANTA}
 use Rattle.tierra_model.specs.declared.parameters.Settings.{Settings}
 use Rattle.tierra_model.specs.declared.setups.Inoculum.{Inoculum}
 use Rattle.tierra_model.specs.Laws.{IsSerialRun}
@@ -16,7 +17,7 @@ use Rattle.soup_isles.specs.Isles.{next_setup, next_setups, setup_at, world_at}
 use Rattle.soup_isles.specs.Runs.{worlds_of}
 use Rattle.soup_isles.proofs.Joining.{setup-under}
 
-pub worlds-sound : (setups : List SetupFields) (n : ℕ) → n ≤ 4000000 → All IsSetup setups → All IsSound (worlds_of setups n)
+pub worlds-sound : (setups : List SetupFields) (n : ℕ) → n ≤ MOST_QUANTA → All IsSetup setups → All IsSound (worlds_of setups n)
 worlds-sound setups n few all =
     All-map IsSound (λ s. serial s n) setups
     (All-weaker IsSetup (λ s. IsSound (serial s n)) (λ s is. (let r : IsSerialRun s n = serial_is_sound s n is few in r.sound)) setups all)
@@ -27,7 +28,7 @@ settings_of_worlds worlds = map (λ w. w.settings) worlds
 abbrev pub settings_of_setups : List SetupFields → List Settings
 settings_of_setups setups = map (λ s. s.settings) setups
 
-pub worlds-settings : (setups : List SetupFields) (n : ℕ) → n ≤ 4000000 → All IsSetup setups → settings_of_worlds (worlds_of setups n) ≡ settings_of_setups setups
+pub worlds-settings : (setups : List SetupFields) (n : ℕ) → n ≤ MOST_QUANTA → All IsSetup setups → settings_of_worlds (worlds_of setups n) ≡ settings_of_setups setups
 worlds-settings [] n few all = refl
 worlds-settings (s ∷ ss) n few all =
     let r : IsSerialRun s n = serial_is_sound s n (All-head IsSetup s ss all) few in

@@ -2,6 +2,7 @@
 
 ghost use Rattle.std.specs.Prelude.{◌≡◌, ◌+◌, ◌<◌, ◌≤◌, All, IfOk, length, map};
 ghost use Rattle.std.specs.Thread.{IsSync};
+ghost use Rattle.tierra_model.specs.declared.limits.TheConstants.{MOST_QUANTA};
 ghost use Rattle.tierra_model.specs.Serial.{serial};
 ghost use Rattle.tierra_model.specs.Setups.{IsSetup};
 ghost use Rattle.soup_isles.specs.Runs.{first_setup, first_setups, isle_worlds, setups_after, worlds_of};
@@ -28,7 +29,7 @@ pub fn run_isles<R: Threads + Sync>(
 ) -> Result<WorldList, OutOfMemory>
     requires isles { (1 ≤ isles) × (isles ≤ 64) }
     requires epochs { (1 ≤ epochs) × (epochs ≤ 1000) }
-    requires quanta { (1 ≤ quanta) × (quanta ≤ 4000000) }
+    requires quanta { (1 ≤ quanta) × (quanta ≤ MOST_QUANTA) }
     requires workers { (1 ≤ workers) × (workers ≤ 64) }
     ensures { IfOk result (λ worlds. worlds ≡ isle_worlds setup.now isles epochs quanta) }
 {
@@ -111,7 +112,7 @@ pub(crate) fn run_epoch<R: Threads + Sync>(
     quanta: u64,
     workers: u32,
 ) -> Result<WorldList, OutOfMemory>
-    requires quanta { (1 ≤ quanta) × (quanta ≤ 4000000) }
+    requires quanta { (1 ≤ quanta) × (quanta ≤ MOST_QUANTA) }
     requires workers { (1 ≤ workers) × (workers ≤ 64) }
     ensures worlds { IfOk result (λ worlds. worlds ≡ worlds_of setups.now quanta) }
     ensures settings { IfOk result (λ worlds. map (λ w. w.settings) worlds ≡ map (λ s. s.settings) setups.now) }
@@ -128,7 +129,7 @@ fn run_parts<R: Threads + Sync>(
     quanta: u64,
     workers: u32,
 ) -> Result<Vec<World>, OutOfMemory>
-    requires quanta { (1 ≤ quanta) × (quanta ≤ 4000000) }
+    requires quanta { (1 ≤ quanta) × (quanta ≤ MOST_QUANTA) }
     requires workers { (1 ≤ workers) × (workers ≤ 64) }
     ensures { IfOk result (λ v. map (λ w. w.world) v.items ≡ worlds_of setups.now quanta) }
 {
@@ -140,11 +141,11 @@ fn run_parts<R: Threads + Sync>(
     let (first, second) = join(
         rt,
         || -> Result<Vec<World>, OutOfMemory>
-            requires { IsSync R.row × ((1 ≤ quanta) × (quanta ≤ 4000000)) × ((1 ≤ others) × (others ≤ 64)) }
+            requires { IsSync R.row × ((1 ≤ quanta) × (quanta ≤ MOST_QUANTA)) × ((1 ≤ others) × (others ≤ 64)) }
             ensures { IfOk result (λ v. map (λ w. w.world) v.items ≡ worlds_of theirs.entry.now quanta) }
         { run_parts(rt, alloc, theirs, quanta, others) },
         || -> Result<Vec<World>, OutOfMemory>
-            requires { IsSync R.row × ((1 ≤ quanta) × (quanta ≤ 4000000)) × ((1 ≤ others) × (others < workers) × (workers ≤ 64)) }
+            requires { IsSync R.row × ((1 ≤ quanta) × (quanta ≤ MOST_QUANTA)) × ((1 ≤ others) × (others < workers) × (workers ≤ 64)) }
             ensures { IfOk result (λ v. map (λ w. w.world) v.items ≡ worlds_of ours.entry.now quanta) }
         { run_parts(rt, alloc, ours, quanta, workers - others) },
     );
@@ -165,7 +166,7 @@ fn share_of(some: u32, workers: u32, isles: usize) -> usize
 
 // One after another.
 fn run_each(alloc: Global, setups: &[Setup], quanta: u64) -> Result<Vec<World>, OutOfMemory>
-    requires { quanta ≤ 4000000 }
+    requires { quanta ≤ MOST_QUANTA }
     ensures { IfOk result (λ v. map (λ w. w.world) v.items ≡ worlds_of setups.now quanta) }
 {
     let mut all = Vec::new(alloc);

@@ -1,6 +1,7 @@
 //! Who begins an epoch on an isle.
 
 ghost use Rattle.std.specs.Prelude.{◌≡◌, ◌+◌, ◌<◌, ◌^◌, ◌≤◌, IfOk, OnOk, length, slice_index};
+ghost use Rattle.tierra_model.specs.declared.limits.TheConstants.{MOST_SIZE};
 ghost use Rattle.tierra_model.specs.Living.{one_of};
 ghost use Rattle.tierra_model.specs.Ranges.{IsCode};
 ghost use Rattle.tierra_model.specs.Room.{first_fit};
@@ -107,7 +108,7 @@ fn room_beside(
 }
 
 fn block_of(creature: &Inoculum) -> Block
-    requires { length creature.now.code ≤ 20000 }
+    requires { length creature.now.code ≤ MOST_SIZE }
     ensures { result ≡ block_of creature.now }
 {
     Block {

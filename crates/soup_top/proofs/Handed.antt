@@ -3,6 +3,7 @@ use Rattle.std.proofs.Common.{◌≡◌, ◌∙◌, refl, sym, ap, ap₂, subst,
 use Rattle.std.specs.Prelude.{IfErr, IfSome, MatchOption, slice_get, unwrap_or}
 use Rattle.std.proofs.lemmas.List.{drop_all}
 use Rattle.std.proofs.lemmas.Option.{same_Some, slice_get_within}
+use Rattle.tierra_model.specs.declared.limits.TheConstants.{MOST_QUANTA}
 use Rattle.tierra_model.specs.Genebank.{bank, group_if_any, saved_in}
 use Rattle.tierra_model.specs.declared.genebank.Saved.{Saved}
 use Rattle.tierra_model.specs.Groups.{GroupFields}
@@ -47,7 +48,7 @@ bank-few setup (suc q) =
     let group = group_if_any q (saved_in q (serial setup q)) in
     omega (arith, ap length (bank-suc setup q), length-append (bank setup q) group, bank-few setup q, at_most_one q (saved_in q (serial setup q)))
 
-pub run-few : (setup : SetupFields) (n : ℕ) → n ≤ 4000000 → length (run_groups setup n) ≤ 4000001
+pub run-few : (setup : SetupFields) (n : ℕ) → n ≤ MOST_QUANTA → length (run_groups setup n) ≤ 4000001
 run-few setup n few = omega (arith, bank-few setup (n + 1), few)
 
 -- ---- one group more

@@ -18,6 +18,7 @@ use Rattle.soup_hold.proofs.Refusing.{one_beginning}
 use Rattle.soup_hold.proofs.Steps.{lines-next}
 use Rattle.soup_top.specs.Checkpoints.{DiskHoldsSerial, HasTrueMoments, HoldsSerial, IsTrueHold, Resumes, quantum_of, resumed_text}
 use Rattle.soup_top.specs.Sources.{run_report}
+use Rattle.tierra_model.specs.declared.limits.TheConstants.{MOST_QUANTA}
 use Rattle.tierra_model.specs.Quantum.{quantum}
 use Rattle.tierra_model.specs.Serial.{serial, start}
 use Rattle.tierra_model.specs.Setups.{IsSetup, SetupFields}
@@ -38,7 +39,7 @@ serial-zero : (setup : SetupFields) → serial setup 0 ≡ start setup
 unfolding serial
 serial-zero setup = refl
 
-serial_at : (setup : SetupFields) → IsSetup setup → (m q : ℕ) → m ≤ 4000000 → m ≤ q → world_at (serial setup m) q ≡ serial setup q
+serial_at : (setup : SetupFields) → IsSetup setup → (m q : ℕ) → m ≤ MOST_QUANTA → m ≤ q → world_at (serial setup m) q ≡ serial setup q
 serial_at setup is m q few le =
     let here : (serial setup m).quanta ≡ m = (serial_is_sound setup m is few).quanta in
     let steps : m + (q - m) ≡ q = omega (arith, le) in
@@ -161,11 +162,11 @@ module _ (setup : SetupFields) (start_at : Option ℕ) (reads : Option (List ℕ
   pub first_there : IsFirst setup (held_of setup start_at) (first_of setup start_at)
   first_there = first_is setup start_at disk.file disk.read
 
-  few_quanta : (o : Option ℕ) → IfSome o (λ m. m ≤ 4000000) → quantum_of o ≤ 4000000
+  few_quanta : (o : Option ℕ) → IfSome o (λ m. m ≤ MOST_QUANTA) → quantum_of o ≤ MOST_QUANTA
   few_quanta None few = omega arith
   few_quanta (Some m) few = few
 
-  few : quantum_of start_at ≤ 4000000
+  few : quantum_of start_at ≤ MOST_QUANTA
   few = few_quanta start_at disk.few
 
   module _ (is : IsSetup setup) (n every : ℕ) (some : 0 < every) where

@@ -5,6 +5,7 @@ use Rattle.soup_checkpoint.specs.Hold.{owner_of}
 use Rattle.soup_hold.specs.Holding.{BeginsWithText, HoldsState, HoldsWorld, IsToldAfter}
 use Rattle.soup_hold.specs.Text.{held_lines, held_quanta}
 use Rattle.soup_top.specs.Sources.{run_report}
+use Rattle.tierra_model.specs.declared.limits.TheConstants.{MOST_QUANTA}
 use Rattle.tierra_model.specs.Serial.{serial}
 use Rattle.tierra_model.specs.Setups.{SetupFields}
 
@@ -19,7 +20,7 @@ pub record DiskHoldsSerial (setup : SetupFields) (start : Option ℕ) (reads : O
   pub told : reads ≡ Some file
   pub read : HoldsSerial setup start file
   pub left : (image : List ℕ) → may_leave image → HoldsSerial setup start image
-  pub few : IfSome start (λ m. m ≤ 4000000)
+  pub few : IfSome start (λ m. m ≤ MOST_QUANTA)
 
 -- where nothing is held, a run goes on from quantum 0
 abbrev pub quantum_of : Option ℕ → ℕ

@@ -7,6 +7,7 @@ ghost use Rattle.commit_book.specs.Books.{world_of};
 ghost use Rattle.report_text.specs.Report.{report};
 ghost use Rattle.soup_top.specs.Handing.{GoesOn, IsOnTheWay, StopsAt, TookAll, number_of_stops};
 ghost use Rattle.soup_top.specs.Sources.{run_groups, run_report};
+ghost use Rattle.tierra_model.specs.declared.limits.TheConstants.{MOST_QUANTA};
 
 use crate::keeping::take_group;
 use crate::stop::RunStop;
@@ -48,7 +49,7 @@ fn keep_one<D: Desk>(
     keeper: &mut Keeper,
     group: Group,
 ) -> Result<(), RunStop>
-    requires few { start.now.quanta ≤ 4000000 }
+    requires few { start.now.quanta ≤ MOST_QUANTA }
     requires unstopped { keeper.old.stopped ≡ None }
     requires way { GoesOn D.state start.now desk.old keeper.old }
     requires next { slice_get (run_groups start.now.setup.value start.now.quanta) keeper.old.done ≡ Some group }
@@ -75,7 +76,7 @@ fn keep_next<D: Desk>(
     keeper: &mut Keeper,
     groups: Groups,
 ) -> Next
-    requires few { start.now.quanta ≤ 4000000 }
+    requires few { start.now.quanta ≤ MOST_QUANTA }
     requires unstopped { keeper.old.stopped ≡ None }
     requires way { GoesOn D.state start.now desk.old keeper.old }
     requires next { AreNext start.now.setup.value start.now.quanta keeper.old.done groups }
@@ -114,7 +115,7 @@ impl<D: Desk> Hand for RunHand<'_, '_, '_, D> {
 
     ghost halts = { λ h. number_of_stops h.keeper.now.stopped };
 
-    ghost can_put = { λ h. (h.start.now.quanta ≤ 4000000) × IsOnTheWay D.state h.start.now h.desk.now h.keeper.now };
+    ghost can_put = { λ h. (h.start.now.quanta ≤ MOST_QUANTA) × IsOnTheWay D.state h.start.now h.desk.now h.keeper.now };
 
     // The same desk and keeper, and of the same start. Where the one is on its way, the other is.
     ghost goes_to = { λ a b. (b.desk.ghost_name ≡ a.desk.ghost_name) × (b.keeper.ghost_name ≡ a.keeper.ghost_name)
@@ -146,7 +147,7 @@ fn run_book<R: Threads + Wait + Sync, G: Gate + Sync, D: Desk>(
     workers: u32,
 ) -> Ran
     requires workers { (1 ≤ workers) × (workers ≤ 64) }
-    requires few { start.now.quanta ≤ 4000000 }
+    requires few { start.now.quanta ≤ MOST_QUANTA }
     requires setup { start.now.setup.value ≡ book.setup }
     requires quanta { start.now.quanta ≡ book.quanta }
     requires unstopped { keeper.old.stopped ≡ None }
@@ -189,7 +190,7 @@ pub(crate) fn keep_book<R: Threads + Wait + Sync, G: Gate + Sync, D: Desk>(
     workers: u32,
 ) -> Result<Text, RunStop>
     requires workers { (1 ≤ workers) × (workers ≤ 64) }
-    requires few { start.now.quanta ≤ 4000000 }
+    requires few { start.now.quanta ≤ MOST_QUANTA }
     requires setup { start.now.setup.value ≡ book.setup }
     requires quanta { start.now.quanta ≡ book.quanta }
     requires unstopped { keeper.old.stopped ≡ None }

@@ -12,6 +12,7 @@ ghost use Rattle.soup_top.specs.Genebank.{BeginsWith, DiskIsOfHistory, IsFirstTo
 ghost use Rattle.soup_top.specs.Keeping.{Completes, IsKeeping, IsToldAtRefusal};
 ghost use Rattle.soup_top.specs.Sources.{run_groups, run_report, run_text};
 ghost use Rattle.soup_top.specs.Stops.{CountsStops, IfDiffers, IfHoldRefused, IfRefused, UnlessTelling};
+ghost use Rattle.tierra_model.specs.declared.limits.TheConstants.{MOST_QUANTA};
 
 use crate::hand::{Keeper, Start, keep_book};
 use crate::stop::RunStop;
@@ -60,7 +61,7 @@ fn run_with_crew<R: Threads + Wait + Sync, G: Gate + Sync, D: Desk>(
     quanta: u64,
     workers: u32,
 ) -> Result<Text, RunStop>
-    requires quanta { (1 ≤ quanta) × (quanta ≤ 4000000) }
+    requires quanta { (1 ≤ quanta) × (quanta ≤ MOST_QUANTA) }
     requires workers { (1 ≤ workers) × (workers ≤ 64) }
     requires attached { IsAttached bank (D.state desk.old) }
     ensures report { IfOk result (λ text. text ≡ run_report setup quanta) }
@@ -105,7 +106,7 @@ fn keep_and_report<R: Threads + Wait + Sync, G: Gate + Sync, D: Desk>(
     quanta: u64,
     workers: u32,
 ) -> Result<(), RunStop>
-    requires quanta { (1 ≤ quanta) × (quanta ≤ 4000000) }
+    requires quanta { (1 ≤ quanta) × (quanta ≤ MOST_QUANTA) }
     requires workers { (1 ≤ workers) × (workers ≤ 64) }
     requires attached { IsAttached bank (D.state desk.old) }
     ensures completed { OnOk result (Completes bank (run_groups setup quanta) (D.state desk.old) (D.state desk.new)) }
@@ -136,7 +137,7 @@ pub(crate) fn run<R: Threads + Wait + Sync, G: Gate + Sync, D: Desk>(
     quanta: u64,
     workers: u32,
 ) -> Result<(), RunStop>
-    requires quanta { (1 ≤ quanta) × (quanta ≤ 4000000) }
+    requires quanta { (1 ≤ quanta) × (quanta ≤ MOST_QUANTA) }
     requires workers { (1 ≤ workers) × (workers ≤ 64) }
     requires sound { HasNoFault (D.state desk.old) }
     ensures told { TellsText (D.state desk.old) (D.state desk.new) (run_text setup quanta) result }

@@ -1,6 +1,7 @@
 //! What the actions tell of a soup file, and of the genebank.
 
 ghost use Rattle.std.specs.Prelude.{◌≡◌, ◌≤◌, IfOk};
+ghost use Rattle.tierra_model.specs.declared.limits.TheConstants.{MOST_QUANTA};
 ghost use Rattle.tierra_model.specs.Serial.{serial};
 ghost use Rattle.report_text.specs.Dump.{dump};
 ghost use Rattle.soup_isles.specs.Runs.{isle_worlds};
@@ -42,7 +43,7 @@ pub(crate) fn file_text<R: Threads + Sync>(
 
 /// The dump of the world after so many quanta.
 fn dump_after(alloc: Global, setup: &Setup, quanta: u64) -> Result<Text, OutOfMemory>
-    requires { quanta ≤ 4000000 }
+    requires { quanta ≤ MOST_QUANTA }
     ensures { IfOk result (λ text. text ≡ dump (serial setup.now quanta)) }
 {
     let Ok(world) = run_serial(alloc, setup, quanta) else {

@@ -7,8 +7,9 @@ use native.Mathlib.Decide.{ℕ_discrete}
 use Rattle.turn_lock.specs.Seats.{LockFields, SeatFields, SpeaksForAll, own_of}
 use Rattle.crew.specs.Works.{HasWorked, IsFirst, IsOther}
 use Rattle.soup_watch.specs.Seats.{IsDone, IsJoined, IsLead}
+use Rattle.tierra_model.specs.declared.limits.TheConstants.{MOST_QUANTA}
 
-pub other_done : (at : LockFields) (caller n : ℕ) (s t : SeatFields) → n ≤ 4000000 → IsOther at caller s → HasWorked (2 * n + 2) s t
+pub other_done : (at : LockFields) (caller n : ℕ) (s t : SeatFields) → n ≤ MOST_QUANTA → IsOther at caller s → HasWorked (2 * n + 2) s t
     → IsDone at caller t
 other_done at caller n s t few o w = record {
   lock = w.lock ∙ o.lock;
@@ -17,7 +18,7 @@ other_done at caller n s t few o w = record {
   speaks = w.speaks caller ∙ o.speaks;
 }
 
-pub first_done : (at : LockFields) (observer n : ℕ) (s t : SeatFields) → n ≤ 4000000 → IsFirst at (observer + 1) s → HasWorked (2 * n + 2) s t
+pub first_done : (at : LockFields) (observer n : ℕ) (s t : SeatFields) → n ≤ MOST_QUANTA → IsFirst at (observer + 1) s → HasWorked (2 * n + 2) s t
     → IsLead at observer t
 first_done at observer n s t few f w = record {
   lock = w.lock ∙ f.lock;

@@ -2,6 +2,7 @@
 
 ghost use Rattle.std.specs.Prelude.{◌≡◌, ◌+◌, ◌++◌, ◌<◌, ◌≤◌, ◌^◌, IfOk, OnOk, min};
 ghost use Rattle.std.specs.Thread.{IsSync};
+ghost use Rattle.tierra_model.specs.declared.limits.TheConstants.{MOST_QUANTA};
 ghost use Rattle.tierra_model.specs.Serial.{serial};
 ghost use Rattle.commit_book.specs.Books.{world_of};
 ghost use Rattle.commit_book.specs.Giving.{MayGive};
@@ -46,7 +47,7 @@ fn work_on<R: Wait, G: Gate>(
     gate: &G,
 ) -> Seat
     requires seat { IsThere seat.old (IsOther lock.now caller) }
-    requires few { lock.now.opening.setup.1 ≤ 4000000 }
+    requires few { lock.now.opening.setup.1 ≤ MOST_QUANTA }
     ensures { IsDone lock.now caller result }
 {
     let Some(seat) = seat.take() else {
@@ -65,7 +66,7 @@ fn lead_on<R: Wait, G: Gate>(
     gate: &G,
 ) -> Seat
     requires seat { IsThere seat.old (IsFirst lock.now (observer + 1)) }
-    requires few { lock.now.opening.setup.1 ≤ 4000000 }
+    requires few { lock.now.opening.setup.1 ≤ MOST_QUANTA }
     ensures { IsLead lock.now observer result }
 {
     let Some(seat) = seat.take() else {
@@ -110,7 +111,7 @@ fn observe<R: Wait>(
 ) -> Result<(Seat, Sights), OutOfMemory>
     requires lock { seat.lock ≡ lock.now }
     requires turns { seat.turns ≡ 0 }
-    requires few { (quanta ≤ 4000000) × (looks ≤ 1000) }
+    requires few { (quanta ≤ MOST_QUANTA) × (looks ≤ 1000) }
     ensures worked { IfOk result (λ r. HasWorked 500000001000 seat r.0) }
     ensures seen { IfOk result (λ r. HasSeen lock.now.opening.setup.0 looks r.0.seen r.1.sights) }
     ensures room { IfOk result (λ r. 0 < r.1.spare) }
@@ -138,7 +139,7 @@ fn observe_on<R: Wait>(
     looks: u64,
 ) -> Result<(Seat, Sights), OutOfMemory>
     requires seat { IsThere seat.old (IsOther lock.now observer) }
-    requires few { (quanta ≤ 4000000) × (looks ≤ 1000) }
+    requires few { (quanta ≤ MOST_QUANTA) × (looks ≤ 1000) }
     ensures joined { IfOk result (λ r. IsJoined lock.now observer observer r.0) }
     ensures seen { IfOk result (λ r. HasSeen lock.now.opening.setup.0 looks r.0.seen r.1.sights) }
     ensures room { IfOk result (λ r. 0 < r.1.spare) }
@@ -164,7 +165,7 @@ fn with_observer<R: Threads + Wait + Sync, G: Gate + Sync>(
     requires callers { (2 ≤ observer) × (observer ≤ 64) }
     requires looks { looks ≤ 1000 }
     requires run { lock.now.opening.setup.1 ≡ quanta }
-    requires few { quanta ≤ 4000000 }
+    requires few { quanta ≤ MOST_QUANTA }
     ensures { IfOk result (IsWatched lock.now.opening.setup.0 lock.now observer observer looks) }
 {
     let Some(mut seat) = first.take() else {
@@ -177,13 +178,13 @@ fn with_observer<R: Threads + Wait + Sync, G: Gate + Sync>(
         rt,
         &mut || -> Result<(Seat, Sights), OutOfMemory>
             requires { IsSync R.row × IsThere theirs (IsOther lock.now observer)
-                × ((quanta ≤ 4000000) × (looks ≤ 1000)) }
+                × ((quanta ≤ MOST_QUANTA) × (looks ≤ 1000)) }
             ensures { IfOk result (λ r. IsJoined lock.entry.now observer observer r.0
                 × HasSeen lock.entry.now.opening.setup.0 looks r.0.seen r.1.sights × (0 < r.1.spare)) }
         { observe_on(rt, alloc, lock, observer, &mut theirs, quanta, looks) },
         &mut || -> Seat
             requires { (IsSync R.row × IsSync G.row) × IsThere mine (IsFirst lock.now (observer + 1))
-                × (lock.now.opening.setup.1 ≤ 4000000) }
+                × (lock.now.opening.setup.1 ≤ MOST_QUANTA) }
             ensures { IsLead lock.entry.now observer result }
         { lead_on(rt, alloc, lock, observer, &mut mine, gate) },
     );
@@ -211,7 +212,7 @@ fn crew_from<R: Threads + Wait + Sync, G: Gate + Sync>(
     requires callers { (2 ≤ caller) × (caller ≤ observer) × (observer ≤ 64) }
     requires looks { looks ≤ 1000 }
     requires run { lock.now.opening.setup.1 ≡ quanta }
-    requires few { quanta ≤ 4000000 }
+    requires few { quanta ≤ MOST_QUANTA }
     ensures { IfOk result (IsWatched lock.now.opening.setup.0 lock.now caller observer looks) }
 {
     if caller == observer {
@@ -227,13 +228,13 @@ fn crew_from<R: Threads + Wait + Sync, G: Gate + Sync>(
         rt,
         &mut || -> Seat
             requires { (IsSync R.row × IsSync G.row) × IsThere theirs (IsOther lock.now caller)
-                × (lock.now.opening.setup.1 ≤ 4000000) }
+                × (lock.now.opening.setup.1 ≤ MOST_QUANTA) }
             ensures { IsDone lock.entry.now caller result }
         { work_on(rt, alloc, lock, caller, &mut theirs, gate) },
         &mut || -> Result<Watched, OutOfMemory>
             requires { (IsSync R.row × IsSync G.row) × IsThere mine (IsFirst lock.now (caller + 1))
                 × ((2 ≤ caller) × (caller < observer) × (observer ≤ 64))
-                × ((looks ≤ 1000) × (lock.now.opening.setup.1 ≡ quanta) × (quanta ≤ 4000000)) }
+                × ((looks ≤ 1000) × (lock.now.opening.setup.1 ≡ quanta) × (quanta ≤ MOST_QUANTA)) }
             ensures { IfOk result (IsWatched lock.entry.now.opening.setup.0 lock.entry.now (caller + 1) observer looks) }
         {
             crew_from(
@@ -331,7 +332,7 @@ fn see_end<R: Wait>(
 ) -> Result<(Sights, Book), OutOfMemory>
     requires callers { (2 ≤ observer) × (observer ≤ 64) }
     requires watched { IsWatched lock.opening.setup.0 lock 2 observer looks watched }
-    requires few { lock.opening.setup.1 ≤ 4000000 }
+    requires few { lock.opening.setup.1 ≤ MOST_QUANTA }
     ensures sights { IfOk result (λ r. AreSights lock.opening.setup.0 lock.opening.setup.1 looks r.0.sights) }
     ensures book { IfOk result (λ r. world_of r.1 ≡ serial lock.opening.setup.0 lock.opening.setup.1) }
 {
@@ -367,7 +368,7 @@ pub fn watch<R: Threads + Wait + Sync, G: Gate + Sync>(
     workers: u32,
     looks: u64,
 ) -> Result<Text, OutOfMemory>
-    requires quanta { (1 ≤ quanta) × (quanta ≤ 4000000) }
+    requires quanta { (1 ≤ quanta) × (quanta ≤ MOST_QUANTA) }
     requires workers { (1 ≤ workers) × (workers ≤ 63) }
     requires looks { looks ≤ 1000 }
     ensures { IfOk result (IsWatchText setup quanta looks) }

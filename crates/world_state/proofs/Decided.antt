@@ -9,6 +9,7 @@ use Rattle.std.proofs.lemmas.Bool.Decides.{nat_tests}
 use Rattle.std.proofs.lemmas.List.Elements.{All-head, All-tail}
 use Rattle.std.proofs.lemmas.List.Sorted.{IsNonDecreasingBy-drop, IsNonDecreasingBy-insert, IsNonDecreasingBy-short, IsPermutation-cons, IsPermutation-insert, IsPermutation-refl, IsPermutation-trans}
 use Rattle.std.proofs.lemmas.Slice.Eq.{bytes_eq-Decides}
+use Rattle.tierra_model.specs.declared.limits.TheConstants.{MOST_QUANTA}
 use Rattle.tierra_model.specs.declared.creatures.Block.{Block}
 use Rattle.tierra_model.specs.declared.creatures.Creature.{Creature}
 use Rattle.tierra_model.specs.declared.parameters.Settings.{Settings}
@@ -216,7 +217,7 @@ due-or-not at fs ss one =
 counts-or-not : (w : World) → OrNot (HasCounts w)
 counts-or-not w =
     by-or-not
-    ((w.quanta ≤ 4000000) × ((w.next_birth ≤ count_limit w.quanta) × ((0 < length w.living) × ((w.births < w.next_birth)
+    ((w.quanta ≤ MOST_QUANTA) × ((w.next_birth ≤ count_limit w.quanta) × ((0 < length w.living) × ((w.births < w.next_birth)
     × ((length w.genotypes < w.next_birth) × (length w.living + w.deaths + 1 ≡ w.next_birth))))))
     (HasCounts w)
     (λ h. record {
@@ -228,7 +229,7 @@ counts-or-not w =
       living_and_dead = h.1.1.1.1.1;
     })
     (λ c. (c.quanta, (c.next_birth, (c.some, (c.births, (c.genotype_count, c.living_and_dead))))))
-    (both-or-not _ _ (le-or-not w.quanta 4000000)
+    (both-or-not _ _ (le-or-not w.quanta MOST_QUANTA)
     (both-or-not _ _ (le-or-not w.next_birth (count_limit w.quanta))
     (both-or-not _ _ (lt-or-not 0 (length w.living))
     (both-or-not _ _ (lt-or-not w.births w.next_birth)

@@ -6,6 +6,7 @@ use Rattle.std.proofs.lemmas.Bool.{cases_eq}
 use Rattle.std.proofs.lemmas.Bool.Decides.{nat_tests}
 use Rattle.std.proofs.lemmas.List.Elements.{All-weaker}
 use Rattle.std.proofs.lemmas.List.Sums.{AllPass-from_list_all, list_all-from_AllPass}
+use Rattle.tierra_model.specs.declared.limits.TheConstants.{MOST_SIZE}
 use Rattle.tierra_model.specs.declared.creatures.Block.{Block}
 use Rattle.tierra_model.specs.declared.creatures.Creature.{Creature}
 use Rattle.tierra_model.specs.declared.creatures.Effort.{Effort}
@@ -73,12 +74,12 @@ pub cell-decides : (v : ℕ) → (is_code_number v ≡ true) ↔ (v < 32)
 cell-decides v = lt-decides v 32
 
 abbrev IsCodeIn : List ℕ → Type 0
-IsCodeIn code = ((1 ≤ length code) × (length code ≤ 20000)) × All (λ v. v < 32) code
+IsCodeIn code = ((1 ≤ length code) × (length code ≤ MOST_SIZE)) × All (λ v. v < 32) code
 
 code-decides : (code : List ℕ) → (is_code code ≡ true) ↔ IsCodeIn code
 code-decides code =
-    both-decide (nat_le 1 (length code) && nat_le (length code) 20000) (list_all is_code_number code) _ _
-    (both-decide (nat_le 1 (length code)) (nat_le (length code) 20000) _ _ (le-decides 1 (length code)) (le-decides (length code) 20000))
+    both-decide (nat_le 1 (length code) && nat_le (length code) MOST_SIZE) (list_all is_code_number code) _ _
+    (both-decide (nat_le 1 (length code)) (nat_le (length code) MOST_SIZE) _ _ (le-decides 1 (length code)) (le-decides (length code) MOST_SIZE))
     (all-decides is_code_number (λ v. v < 32) cell-decides code)
 
 abbrev pub IsGenotypeIn : ℕ → Found → Type 0

@@ -4,6 +4,7 @@ use Rattle.std.specs.Prelude.{if◌then◌else◌, ◌&&◌, ◌↔◌, ◌==◌
 use Rattle.std.specs.List.{list_all}
 use Rattle.std.proofs.lemmas.Bool.Decides.{nat_tests}
 use Rattle.std.proofs.lemmas.List.Elements.{All-cons, All-head, All-map, All-nil, All-tail, All-weaker}
+use Rattle.tierra_model.specs.declared.limits.TheConstants.{MOST_SIZE}
 use Rattle.tierra_model.specs.declared.creatures.Creature.{Creature}
 use Rattle.tierra_model.specs.Counting.{one_if, times_in}
 use Rattle.tierra_model.specs.Living.{ids_of}
@@ -151,8 +152,8 @@ saved-known at fs ss one each = saved-each (length fs) ss (λ k m. go k m (nat_l
         let low : one_if (nat_le at (genotype_at (genotypes_of fs) k).total) ≡ 0 = grind (arith, nat_tests) in
         absurd (omega (arith, m, times, low))
 
-pub codes-short : (fs : List Found) → All (λ g. IsCode g.code) (genotypes_of fs) → All (λ f. length f.code ≤ 20000) fs
-codes-short fs h = All-weaker (λ (f : Found). IsCode f.code) (λ (f : Found). length f.code ≤ 20000) (λ f q. q.1) fs (unmapped (λ (g : Genotype). IsCode g.code) genotype_of fs h)
+pub codes-short : (fs : List Found) → All (λ g. IsCode g.code) (genotypes_of fs) → All (λ f. length f.code ≤ MOST_SIZE) fs
+codes-short fs h = All-weaker (λ (f : Found). IsCode f.code) (λ (f : Found). length f.code ≤ MOST_SIZE) (λ f q. q.1) fs (unmapped (λ (g : Genotype). IsCode g.code) genotype_of fs h)
 
 pub codes-written : (fs : List Found) → All (λ g. IsCode g.code) (genotypes_of fs) → All (λ f. IsCode f.code) fs
 codes-written fs h = unmapped (λ (g : Genotype). IsCode g.code) genotype_of fs h

@@ -5,6 +5,7 @@ use Rattle.std.specs.List.{flat_map}
 use Rattle.std.specs.List.Sorted.{IsNonDecreasingBy, IsPermutation}
 use Rattle.std.proofs.lemmas.List.{length-map}
 use Rattle.std.proofs.lemmas.List.Folds.{flat_map-map}
+use Rattle.tierra_model.specs.declared.limits.TheConstants.{COUNT_END, MOST_QUANTA, MOST_SIZE}
 use Rattle.tierra_model.specs.declared.creatures.Block.{Block}
 use Rattle.tierra_model.specs.declared.creatures.Creature.{Creature}
 use Rattle.tierra_model.specs.declared.creatures.Effort.{Effort}
@@ -149,7 +150,7 @@ same-text w s =
 
 -- ---- the numbers fit
 
-limit-small : (quanta : ℕ) → quanta ≤ 4000000 → 2 ^ 40 + 10000 * quanta < 2 ^ 60
+limit-small : (quanta : ℕ) → quanta ≤ MOST_QUANTA → 2 ^ 40 + 10000 * quanta < COUNT_END
 limit-small quanta le = omega arith
 
 creature-fits : (w : World) (c : Creature) → IsSound w → HasWords c → IsPlaced w.settings.soup_size c
@@ -179,7 +180,7 @@ creature-fits w c s words placed processor genotype number small =
       ),
     ))
   where
-    daughter : (o : Option Block) → IfSome o (λ b. (1 ≤ b.size) × (b.size ≤ 20000) × (b.at + b.size ≤ w.settings.soup_size))
+    daughter : (o : Option Block) → IfSome o (λ b. (1 ≤ b.size) × (b.size ≤ MOST_SIZE) × (b.at + b.size ≤ w.settings.soup_size))
         → IfSome o (λ b. ((b.at < 2 ^ 32) × (b.size < 2 ^ 32)) × (1 ≤ b.size))
     daughter None h = tt
     daughter (Some b) h =
@@ -206,7 +207,7 @@ effort-fits : (o : Option Effort) → IfSome o (λ (e : Effort). 1 ≤ e.ran) �
 effort-fits None h l = tt
 effort-fits (Some e) h l = (l, h)
 
-founds-fit : (most k : ℕ) (gs : List Genotype) → most < 2 ^ 60 → k + length gs < 2 ^ 60 → ParentsBelow k gs
+founds-fit : (most k : ℕ) (gs : List Genotype) → most < COUNT_END → k + length gs < COUNT_END → ParentsBelow k gs
     → Each (λ g. IsCode g.code) gs → Each (λ g. g.total ≤ most) gs → Each (λ g. AreEfforts g.first_effort g.second_effort) gs
     → Each HasLongNumbers gs → Each FoundFits (map found_of gs)
 founds-fit most k [] low few parents written totals efforts long = tt
@@ -233,7 +234,7 @@ founds-fit most k (g ∷ gs) low few parents written totals efforts long =
     parent None h = tt
     parent (Some p) h = omega (arith, h, few)
 
-savings-fit : (most q : ℕ) (ss : List ModelSaving) → most < 2 ^ 60 → q ≤ 4000000 → Each (λ s. s.genotype < most) ss → Each (λ s. s.quantum ≤ q) ss
+savings-fit : (most q : ℕ) (ss : List ModelSaving) → most < COUNT_END → q ≤ MOST_QUANTA → Each (λ s. s.genotype < most) ss → Each (λ s. s.quantum ≤ q) ss
     → Each (λ s. AreEfforts s.first_effort s.second_effort) ss → Each (λ s. IsLongEffort s.first_effort × IsLongEffort s.second_effort) ss
     → Each SavingFits (map stored_of ss)
 savings-fit most q [] low few known past efforts long = tt
@@ -248,7 +249,7 @@ savings-fit most q (s ∷ ss) low few known past efforts long =
     )
 
 -- numbers of those who live
-ids-fit : (most : ℕ) (living : List Creature) (ids : List ℕ) → most < 2 ^ 60 → AreHere living ids → Each (λ c. (1 ≤ c.id) × (c.id < most)) living
+ids-fit : (most : ℕ) (living : List Creature) (ids : List ℕ) → most < COUNT_END → AreHere living ids → Each (λ c. (1 ≤ c.id) × (c.id < most)) living
     → Each Long ids
 ids-fit most living [] low h numbers = tt
 ids-fit most living (id ∷ ids) low h numbers =
@@ -266,8 +267,8 @@ parts-fit w s t =
     let dead = s.living_and_dead in
     let slicer = are-here w.living w.slicer s.slicer in
     let reaper = are-here w.living w.reaper s.reaper in
-    let low : w.next_birth < 2 ^ 60 = omega (arith, past, next) in
-    let few : length w.genotypes < 2 ^ 60 = omega (arith, count, low) in
+    let low : w.next_birth < COUNT_END = omega (arith, past, next) in
+    let few : length w.genotypes < COUNT_END = omega (arith, count, low) in
     let line : All CreatureFits (line_of w) = all_from_each CreatureFits (line_of w) (line-fits w s t w.slicer slicer) in
     let founds : All FoundFits (map found_of w.genotypes) = all_from_each FoundFits (map found_of w.genotypes)
     (founds-fit (2 ^ 40 + 10000 * w.quanta) 0 w.genotypes (limit-small w.quanta past) (omega (arith, few)) s.parents

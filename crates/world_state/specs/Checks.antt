@@ -1,6 +1,7 @@
 -- Tests of a world's parts, each of which says what soundness says of them.
 use Rattle.std.specs.List.{flat_map, list_all}
 use Rattle.std.specs.Prelude.{Bool, List, None, Option, Some, [], false, if◌then◌else◌, length, nat_le, nat_lt, option_to_list, slice_index_or, true, ℕ, ◌&&◌, ◌+◌, ◌==◌, ◌^◌, ◌∷◌}
+use Rattle.tierra_model.specs.declared.limits.TheConstants.{MOST_SIZE}
 use Rattle.tierra_model.specs.declared.creatures.Block.{Block}
 use Rattle.tierra_model.specs.declared.creatures.Creature.{Creature}
 use Rattle.tierra_model.specs.declared.creatures.Effort.{Effort}
@@ -17,7 +18,7 @@ is_code_number v = nat_lt v 32
 -- ---- creatures
 
 abbrev pub is_block_in : ℕ → Block → Bool
-is_block_in n b = nat_le 1 b.size && nat_le b.size 20000 && nat_le (b.at + b.size) n
+is_block_in n b = nat_le 1 b.size && nat_le b.size MOST_SIZE && nat_le (b.at + b.size) n
 
 abbrev pub is_daughter_in : ℕ → Option Block → Bool
 is_daughter_in n None = true
@@ -40,7 +41,7 @@ is_effort None = true
 is_effort (Some e) = nat_le 1 e.ran
 
 abbrev pub is_code : List ℕ → Bool
-is_code code = nat_le 1 (length code) && nat_le (length code) 20000 && list_all is_code_number code
+is_code code = nat_le 1 (length code) && nat_le (length code) MOST_SIZE && list_all is_code_number code
 
 abbrev pub is_genotype : ℕ → Found → Bool
 is_genotype limit f = is_code f.code && nat_le f.total limit && is_effort f.first_effort && is_effort f.second_effort

@@ -1,5 +1,6 @@
 -- Soundness in parts, each of which is tested by itself.
 use Rattle.std.specs.Prelude.{All, List, length, nat_le, ℕ, ◌+◌, ◌<◌, ◌^◌, ◌≡◌, ◌≤◌}
+use Rattle.tierra_model.specs.declared.limits.TheConstants.{MOST_QUANTA}
 use Rattle.tierra_model.specs.declared.creatures.Creature.{Creature}
 use Rattle.tierra_model.specs.Counting.{one_if, times_in}
 use Rattle.tierra_model.specs.Living.{ids_of}
@@ -9,7 +10,7 @@ use Rattle.tierra_model.specs.World.{Genotype, Saving, World, genotype_at}
 
 -- how many there are, and how far the counts go
 pub record HasCounts (w : World) : Type 0 where
-  pub quanta : w.quanta ≤ 4000000
+  pub quanta : w.quanta ≤ MOST_QUANTA
   pub next_birth : w.next_birth ≤ count_limit w.quanta
   pub some : 0 < length w.living
   pub births : w.births < w.next_birth

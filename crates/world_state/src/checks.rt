@@ -13,10 +13,7 @@ ghost use Rattle.world_state.specs.Checks.{apart_step, blocks_in, blocks_of, cou
 use crate::fields::Found;
 use crate::saving::Saving;
 use std::alloc::Global;
-use tierra_model::{Block, Code, Creature, Effort, OutOfMemory};
-
-/// The most cells that a block or a code has.
-const LONGEST: u32 = 20_000;
+use tierra_model::{Block, Code, Creature, Effort, MOST_SIZE, OutOfMemory};
 
 /// Less than this is saved of a quantum.
 const MOST: u64 = 1 << 30;
@@ -34,7 +31,7 @@ fn is_code(code: &Code) -> bool
     ensures { result ≡ is_code code.now }
 {
     let cells = code.items.as_slice();
-    !cells.is_empty() && cells.len() <= LONGEST as usize && are_code_numbers(cells)
+    !cells.is_empty() && cells.len() <= MOST_SIZE as usize && are_code_numbers(cells)
 }
 
 // ---- creatures
@@ -43,7 +40,7 @@ fn is_block_in(size: u32, block: Block) -> bool
     ensures { result ≡ is_block_in size block }
 {
     let end = u64::from(block.at) + u64::from(block.size);
-    block.size >= 1 && block.size <= LONGEST && end <= u64::from(size)
+    block.size >= 1 && block.size <= MOST_SIZE && end <= u64::from(size)
 }
 
 fn is_daughter_in(size: u32, daughter: Option<Block>) -> bool
@@ -197,7 +194,7 @@ pub fn are_rising(saved: &[Saving]) -> bool
 
 /// Whether the savings of each quantum stay below 2^30 in all, each counted as the length of its code and 100 more.
 pub fn have_sizes(founds: &[Found], saved: &[Saving]) -> bool
-    requires few { All (λ f. length f.code ≤ 20000) founds.now }
+    requires few { All (λ f. length f.code ≤ MOST_SIZE) founds.now }
     requires known { All (λ s. s.genotype < length founds.now) saved.now }
     ensures { result ≡ passes (size_step founds.now) (0, 0) saved.now }
 {
@@ -215,7 +212,7 @@ pub fn have_sizes(founds: &[Found], saved: &[Saving]) -> bool
 
 // What is counted of a saving's quantum with it, after a quantum and what was counted of that.
 fn counted(founds: &[Found], quantum: u64, sum: u64, saving: Saving) -> u64
-    requires few { All (λ f. length f.code ≤ 20000) founds.now }
+    requires few { All (λ f. length f.code ≤ MOST_SIZE) founds.now }
     requires known { saving.genotype < length founds.now }
     requires small { sum < 2 ^ 30 }
     ensures { result ≡ counted founds.now (quantum, sum) saving }
@@ -225,7 +222,7 @@ fn counted(founds: &[Found], quantum: u64, sum: u64, saving: Saving) -> u64
 }
 
 fn saving_size(founds: &[Found], saving: Saving) -> u64
-    requires few { All (λ f. length f.code ≤ 20000) founds.now }
+    requires few { All (λ f. length f.code ≤ MOST_SIZE) founds.now }
     requires known { saving.genotype < length founds.now }
     ensures size { result ≡ saving_size founds.now saving }
     ensures small { result ≤ 20100 }

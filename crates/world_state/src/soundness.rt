@@ -19,9 +19,7 @@ use crate::entering::genotypes_from;
 use crate::fields::Found;
 use crate::saving::Saving;
 use std::alloc::Global;
-use tierra_model::{Creature, OutOfMemory};
-
-const MOST_QUANTA: u64 = 4_000_000;
+use tierra_model::{Creature, MOST_QUANTA, MOST_SLICE, OutOfMemory};
 
 impl Draft {
     /// Whether the world is sound.
@@ -107,10 +105,10 @@ impl Draft {
 
 // What the counts may come to.
 fn limit_of(quanta: u64) -> u64
-    requires { quanta ≤ 4000000 }
+    requires { quanta ≤ MOST_QUANTA }
     ensures { result ≡ count_limit quanta }
 {
-    (1 << 40) + 10_000 * quanta
+    (1 << 40) + u64::from(MOST_SLICE) * quanta
 }
 
 fn are_cells(size: u32, cells: &[u8]) -> bool

@@ -1,5 +1,6 @@
 use Rattle.std.proofs.Common.{◌≡◌, ◌∙◌, ◌≤◌, ◌<◌, List, arith, length, subst, sym}
 use Rattle.std.specs.Prelude.{All, IsTrue}
+use Rattle.tierra_model.specs.declared.limits.TheConstants.{MOST_SIZE}
 use Rattle.tierra_model.specs.World.{World}
 use Rattle.world_state.specs.declared.fields.Found.{Found}
 use Rattle.world_state.specs.declared.saving.Saving.{Saving}
@@ -12,7 +13,7 @@ use Rattle.world_state.proofs.draft.Draft.has_sizes.Goals as goal
 pub have_sizes-requires-clause-few : goal.have_sizes-requires-clause-few
 have_sizes-requires-clause-few c =
     let parts : HasParts (the_view c.self.inside) = subst HasParts (sym c.self.view_is) c.requires.parts in
-    subst (All (λ (f : Found). length f.code ≤ 20000)) (sym c.deref.ensures.value) (codes-short c.self.inside.founds.items parts.genotypes.written)
+    subst (All (λ (f : Found). length f.code ≤ MOST_SIZE)) (sym c.deref.ensures.value) (codes-short c.self.inside.founds.items parts.genotypes.written)
 
 pub have_sizes-requires-clause-known : goal.have_sizes-requires-clause-known
 have_sizes-requires-clause-known c =
