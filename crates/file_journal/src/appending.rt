@@ -29,7 +29,8 @@ fn stage<D: Desk>(desk: &mut D, gate: u64, room: &Room) -> Result<(), DiskFailed
 fn open_gate<D: Desk>(desk: &mut D, gate: u64, room: &Room) -> Result<(), DiskFailed>
     requires settled { IsSettled (D.state desk.old) }
     requires staged { IfSome (D.state desk.old).reads (IsStaged gate room.now) }
-    ensures opened { OnOk result (Becomes (D.state desk.old) (D.state desk.new) (λ file. ClosesAfter (with_record gate room.now file))) }
+    ensures opened { OnOk result (Becomes (D.state desk.old) (D.state desk.new)
+        (λ file. ClosesAfter (with_record gate room.now file))) }
     ensures call { IsDiskCall (D.state desk.old) (D.state desk.new) result
         (IfTold (D.state desk.old) (IsBeforeOrAfter gate room.now)) }
 {
@@ -42,7 +43,8 @@ pub fn append<D: Desk>(desk: &mut D, gate: u64, room: &Room) -> Result<(), DiskF
     requires settled { IsSettled (D.state desk.old) }
     requires most { gate ≤ 2 ^ 62 }
     requires closed { IfSome (D.state desk.old).reads (IsClosedAt gate) }
-    ensures appended { OnOk result (Becomes (D.state desk.old) (D.state desk.new) (λ file. ClosesAfter (with_record gate room.now file))) }
+    ensures appended { OnOk result
+        (Becomes (D.state desk.old) (D.state desk.new) (λ file. ClosesAfter (with_record gate room.now file))) }
     ensures most { OnOk result (gate + 1 + length room.now < 2 ^ 62) }
 
     // A crash at any moment leaves the file as it was up to the closed gate, or with the record behind an open one.

@@ -25,7 +25,8 @@ fn make<D: Desk>(
     requires title { IsTitle header.now.title }
     requires stage { IfSome (D.state desk.old).reads (IsAtStage header.now.title stage) }
     ensures made { OnOk result (Becomes (D.state desk.old) (D.state desk.new) (λ file. IsMade header.now)) }
-    ensures moments { UsesDisk (D.state desk.old) (D.state desk.new) (IfTold (D.state desk.old) (λ file. IsMaking header.now)) }
+    ensures moments { UsesDisk (D.state desk.old) (D.state desk.new)
+        (IfTold (D.state desk.old) (λ file. IsMaking header.now)) }
     ensures cause { CountsFaults result (D.state desk.new) }
 {
     let bytes = header.to_bytes(alloc)?;
@@ -69,7 +70,8 @@ pub fn open<D: Desk>(
     requires sound { HasNoFault (D.state desk.old) }
     requires title { IsTitle header.now.title }
     ensures new { IfOk result (λ o. IfNone o (IsNew header.now (D.state desk.old) (D.state desk.new))) }
-    ensures found { IfOk result (λ o. IfSome o (λ image. IsFound header.now.title image.items (D.state desk.old) (D.state desk.new))) }
+    ensures found { IfOk result (λ o. IfSome o
+        (λ image. IsFound header.now.title image.items (D.state desk.old) (D.state desk.new))) }
 
     // Whatever comes, a file that is not fresh is not written at any moment.
     ensures quiet { IfSome (D.state desk.old).reads (λ file. (IsFresh header.now.title file → ⊥)

@@ -37,9 +37,17 @@ impl Model for Draws {
 
     ghost Value = { DrawFields };
 
-    ghost view = { λ d. record { seed = d.seed; quantum = d.quantum; soup_size = d.soup_size; back_rate = d.back_rate; copy_rate = d.copy_rate; flaw_rate = d.flaw_rate } };
+    ghost view = { λ d. record {
+      seed = d.seed;
+      quantum = d.quantum;
+      soup_size = d.soup_size;
+      back_rate = d.back_rate;
+      copy_rate = d.copy_rate;
+      flaw_rate = d.flaw_rate;
+    } };
 
-    ghost invariant = { λ d. (0 < d.soup_size) × IfSome d.reading (λ r. (r.key ≡ key_of d.seed) × (r.stream ≡ d.quantum)) };
+    ghost invariant = { λ d. (0 < d.soup_size)
+        × IfSome d.reading (λ r. (r.key ≡ key_of d.seed) × (r.stream ≡ d.quantum)) };
 }
 
 impl Draws {
@@ -48,18 +56,19 @@ impl Draws {
     pub fn new(settings: &Settings, q: u64) -> Draws
         ensures { result ≡ draws_of settings.now q }
     {
-        let is_random = settings.back_rate != 0
-            || settings.copy_rate != 0
-            || settings.flaw_rate != 0;
-        Draws {
+        let mut draws = Draws {
             seed: settings.seed,
             quantum: q,
             soup_size: settings.soup_size,
             back_rate: settings.back_rate,
             copy_rate: settings.copy_rate,
             flaw_rate: settings.flaw_rate,
-            reading: reading_where(is_random, &settings.seed, q),
+            reading: None,
+        };
+        if settings.back_rate != 0 || settings.copy_rate != 0 || settings.flaw_rate != 0 {
+            draws.reading = Some(Reading::start(&settings.seed, q));
         }
+        draws
     }
 
     /// Has the words of instruction `i` at hand, which is cheap where it is the next one.
@@ -150,17 +159,6 @@ impl Draws {
             Some(reading) if reading.instruction() == i => reading.copy(),
             _ => reading_at(&self.seed, self.quantum, i).copy(),
         }
-    }
-}
-
-// The stream, where it is asked for.
-fn reading_where(is_random: bool, seed: &[u8; 32], stream: u64) -> Option<Reading>
-    ensures { IfSome result (λ r. (r.key ≡ key_of seed.now) × (r.stream ≡ stream)) }
-{
-    if is_random {
-        Some(Reading::start(seed, stream))
-    } else {
-        None
     }
 }
 

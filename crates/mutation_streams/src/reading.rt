@@ -27,7 +27,9 @@ impl Model for Reading {
 
     ghost view = { λ r. record { key = r.rng.key; stream = r.rng.stream; instruction = r.instruction } };
 
-    ghost invariant = { λ r. (r.rng.word_pos ≡ 7 + 4 * r.instruction) × (r.first ≡ first_words r.rng.key r.rng.stream) × (r.flaw ≡ flaw_words r.rng.key r.rng.stream r.instruction) × (r.copy ≡ copy_words r.rng.key r.rng.stream r.instruction) × (r.instruction < 2 ^ 32) };
+    ghost invariant = { λ r. (r.rng.word_pos ≡ 7 + 4 * r.instruction) × (r.first ≡ first_words r.rng.key r.rng.stream)
+        × (r.flaw ≡ flaw_words r.rng.key r.rng.stream r.instruction)
+        × (r.copy ≡ copy_words r.rng.key r.rng.stream r.instruction) × (r.instruction < 2 ^ 32) };
 }
 
 impl Reading {

@@ -55,9 +55,23 @@ impl Model for Finding {
 
     ghost Value = { findings.Finding };
 
-    ghost view = { λ f. record { settings = f.records.value.settings; quantum = f.quantum; before = f.records.value.before; reads = f.reads.reads; events = f.events; after = f.records.value.after } };
+    ghost view = { λ f. record {
+      settings = f.records.value.settings;
+      quantum = f.quantum;
+      before = f.records.value.before;
+      reads = f.reads.reads;
+      events = f.events;
+      after = f.records.value.after;
+    } };
 
-    ghost invariant = { λ f. Kept (record { settings = f.records.value.settings; quantum = f.quantum; before = f.records.value.before; reads = f.reads.reads; events = f.events; after = f.records.value.after }) };
+    ghost invariant = { λ f. Kept (record {
+      settings = f.records.value.settings;
+      quantum = f.quantum;
+      before = f.records.value.before;
+      reads = f.reads.reads;
+      events = f.events;
+      after = f.records.value.after;
+    }) };
 }
 
 ghost use Rattle.quantum_run.specs.Found.{Kept};
@@ -72,8 +86,22 @@ impl Finding {
         after: Creature,
         place: Box<Records>,
     ) -> Finding
-        requires { Kept (record { settings = settings; quantum = quantum; before = before; reads = reads.reads; events = events; after = after }) }
-        ensures { result ≡ record { settings = settings; quantum = quantum; before = before; reads = reads.reads; events = events; after = after } }
+        requires { Kept (record {
+          settings = settings;
+          quantum = quantum;
+          before = before;
+          reads = reads.reads;
+          events = events;
+          after = after;
+        }) }
+        ensures { result ≡ record {
+          settings = settings;
+          quantum = quantum;
+          before = before;
+          reads = reads.reads;
+          events = events;
+          after = after;
+        } }
     {
         let mut records = place;
         *records = Records {

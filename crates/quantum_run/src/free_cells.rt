@@ -126,7 +126,8 @@ fn make_own(own: &mut Blocks, is_own: &mut bool, size: u32, shown: &[Block])
     requires size { is_own.old ≡ true → own.old.size ≡ size }
     ensures free { own.new.free ≡ (if is_own.old then own.old.free else shown.now) }
     ensures size { own.new.size ≡ size }
-    ensures room { (if is_own.old then own.old.spare else length own.old.free + own.old.spare - length shown.now) ≤ own.new.spare }
+    ensures room { (if is_own.old then own.old.spare else length own.old.free + own.old.spare - length shown.now)
+        ≤ own.new.spare }
     ensures made { is_own.new ≡ true }
 {
     if !*is_own {

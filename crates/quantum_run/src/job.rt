@@ -40,9 +40,24 @@ impl Model for Job {
 
     ghost Value = { Scene };
 
-    ghost view = { λ j. record { settings = j.expected.value.settings; quanta = j.quantum - 1; front = j.expected.value.front; soup = j.cells; free = arc_value j.free; yard = arc_value j.yard } };
+    ghost view = { λ j. record {
+      settings = j.expected.value.settings;
+      quanta = j.quantum - 1;
+      front = j.expected.value.front;
+      soup = j.cells;
+      free = arc_value j.free;
+      yard = arc_value j.yard;
+    } };
 
-    ghost invariant = { λ j. (1 ≤ j.quantum) × (length (arc_value j.yard) < 2 ^ 30) × OfSoundWorld (record { settings = j.expected.value.settings; quanta = j.quantum - 1; front = j.expected.value.front; soup = j.cells; free = arc_value j.free; yard = arc_value j.yard }) };
+    ghost invariant = { λ j. (1 ≤ j.quantum) × (length (arc_value j.yard) < 2 ^ 30)
+        × OfSoundWorld (record {
+          settings = j.expected.value.settings;
+          quanta = j.quantum - 1;
+          front = j.expected.value.front;
+          soup = j.cells;
+          free = arc_value j.free;
+          yard = arc_value j.yard;
+        }) };
 }
 
 impl Job {
@@ -59,10 +74,22 @@ impl Job {
         room: Room,
     ) -> Result<Job, OutOfMemory>
         requires one { 1 ≤ quantum }
-        requires sound { OfSoundWorld (record { settings = settings.now; quanta = quantum - 1; front = front.now;
-            soup = cells; free = arc_value free; yard = arc_value yard }) }
-        ensures { IfOk result (λ j. j ≡ record { settings = settings.now; quanta = quantum - 1; front = front.now;
-            soup = cells; free = arc_value free; yard = arc_value yard }) }
+        requires sound { OfSoundWorld (record {
+          settings = settings.now;
+          quanta = quantum - 1;
+          front = front.now;
+          soup = cells;
+          free = arc_value free;
+          yard = arc_value yard;
+        }) }
+        ensures { IfOk result (λ j. j ≡ record {
+          settings = settings.now;
+          quanta = quantum - 1;
+          front = front.now;
+          soup = cells;
+          free = arc_value free;
+          yard = arc_value yard;
+        }) }
     {
         let mut room = room;
         let expected = Expected {

@@ -43,7 +43,14 @@ impl<'a> Model for OnScene<'a> {
     ghost view = { λ s. record {
       run = record {
         start = s.job.now;
-        now = record { settings = s.job.now.settings; quanta = s.job.now.quanta; front = s.front; soup = s.cells.now; free = s.free.free; yard = s.yard.items };
+        now = record {
+          settings = s.job.now.settings;
+          quanta = s.job.now.quanta;
+          front = s.front;
+          soup = s.cells.now;
+          free = s.free.free;
+          yard = s.yard.items;
+        };
         cells = s.cells.reads.cells;
         free_noted = s.free_noted;
         yard_noted = s.yard_noted;
@@ -318,9 +325,11 @@ fn give_back(free: &mut FreeCells, dead: &Standing)
     requires own { dead.now.own.at + dead.now.own.size ≤ free.old.size }
     requires daughter { (p : ℕ) → is_in_daughter dead.now.daughter p ≡ true → p < free.old.size }
     requires owned { (p : ℕ) → is_in dead.now.own p ≡ true → is_in_some free.old.free p ≡ false }
-    requires then { (p : ℕ) → is_in_daughter dead.now.daughter p ≡ true → is_in_some (runs_of free.old.size (λ q. is_in_some free.old.free q || is_in dead.now.own q)) p ≡ false }
+    requires then { (p : ℕ) → is_in_daughter dead.now.daughter p ≡ true
+        → is_in_some (runs_of free.old.size (λ q. is_in_some free.old.free q || is_in dead.now.own q)) p ≡ false }
     requires room { 2 ≤ free.old.spare }
-    ensures free { free.new.free ≡ runs_of free.old.size (λ p. is_in_some free.old.free p || (is_in dead.now.own p || is_in_daughter dead.now.daughter p)) }
+    ensures free { free.new.free ≡ runs_of free.old.size (λ p. is_in_some free.old.free p
+        || (is_in dead.now.own p || is_in_daughter dead.now.daughter p)) }
     ensures size { free.new.size ≡ free.old.size }
     ensures room { free.old.spare ≤ free.new.spare + 2 }
 {
@@ -334,7 +343,8 @@ fn give_back_daughter(free: &mut FreeCells, daughter: Option<Block>)
     requires owned { (p : ℕ) → is_in_daughter daughter p ≡ true → is_in_some free.old.free p ≡ false }
     requires room { 0 < free.old.spare }
     ensures size { free.new.size ≡ free.old.size }
-    ensures free { free.new.free ≡ runs_of free.old.size (λ p. is_in_some free.old.free p || is_in_daughter daughter p) }
+    ensures free { free.new.free ≡ runs_of free.old.size (λ p. is_in_some free.old.free p
+        || is_in_daughter daughter p) }
     ensures room { free.old.spare ≤ free.new.spare + 1 }
 {
     if let Some(block) = daughter {

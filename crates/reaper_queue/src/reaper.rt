@@ -30,7 +30,11 @@ impl Model for Reaper {
     ghost Value = { Queue };
 
     // Places are numbers of 32 bits, so room beyond them does not count.
-    ghost view = { λ r. record { entries = r.entries.items; spare = min (deque_capacity r.entries) (2 ^ 32 - 1) - deque_len r.entries } };
+    ghost view = { λ r. record {
+      entries = r.entries.items;
+      spare = min (deque_capacity r.entries)
+          (2 ^ 32 - 1) - deque_len r.entries;
+    } };
 
     // Nobody stands in it twice.
     ghost invariant = { λ r. (deque_len r.entries < 2 ^ 32) × IsOnce r.entries.items };

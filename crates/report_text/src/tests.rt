@@ -11,7 +11,8 @@ const NAME: Name = Name { size: 2, rank: 27 };
 
 /// A genotype of two instructions.
 fn example(alloc: Global, parent: Option<Name>, first: Option<Effort>) -> Result<Saved, Fail>
-    ensures { IfOk result (λ s. s ≡ record { name = record { size = 2; rank = 27 }; parent = parent; first = first; second = None; code = 0 ∷ 31 ∷ [] }) }
+    ensures { IfOk result (λ s. s ≡ record
+        { name = record { size = 2; rank = 27 }; parent = parent; first = first; second = None; code = 0 ∷ 31 ∷ [] }) }
 {
     Ok(Saved {
         name: NAME,

@@ -65,7 +65,8 @@ fn add_register(text: &mut String, label: &str, value: &i32) -> Result<(), OutOf
 
 // A line for each count.
 fn add_counts(text: &mut String, counts: Counts) -> Result<(), OutOfMemory>
-    ensures { OnOk result (string_bytes text.new ≡ string_bytes text.old ++ counts_text counts.quanta counts.births counts.deaths counts.living counts.filled) }
+    ensures { OnOk result (string_bytes text.new
+        ≡ string_bytes text.old ++ counts_text counts.quanta counts.births counts.deaths counts.living counts.filled) }
 {
     add_count(text, "quanta ", counts.quanta)?;
     add_count(text, "\nbirths ", counts.births)?;
@@ -99,7 +100,8 @@ fn add_front(text: &mut String, creature: &Creature) -> Result<(), OutOfMemory>
 }
 
 fn add_genotypes(alloc: Global, text: &mut Vec<u8>, world: &World) -> Result<(), OutOfMemory>
-    ensures { OnOk result (text.new.items ≡ text.old.items ++ flat_map (line_of world.now.world) (range_with_len 0 (length world.now.world.genotypes))) }
+    ensures { OnOk result (text.new.items
+        ≡ text.old.items ++ flat_map (line_of world.now.world) (range_with_len 0 (length world.now.world.genotypes))) }
 {
     for number in 0..world.genotypes().len() {
         add_genotype(alloc, text, world, number)?;

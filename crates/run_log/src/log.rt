@@ -162,7 +162,8 @@ impl Log {
 fn entries_up_to(entries: &[Entry], quantum: u64) -> usize
     requires { IsNonDecreasingBy (λ (e : Entry). quantum_of e.note) entries.now }
     ensures within { result ≤ length entries.now }
-    ensures parted { IsPartitionPoint (λ (e : Entry). nat_le (quantum_of e.note) quantum ≡ true) (λ (e : Entry). nat_le (quantum_of e.note) quantum ≡ false) entries.now result }
+    ensures parted { IsPartitionPoint (λ (e : Entry). nat_le (quantum_of e.note) quantum
+        ≡ true) (λ (e : Entry). nat_le (quantum_of e.note) quantum ≡ false) entries.now result }
 {
     entries.partition_point(|entry| entry.note.quantum() <= quantum)
 }

@@ -34,7 +34,8 @@ pub fn curve(alloc: Global, setup: &Setup, quanta: u64, every: u64) -> Result<Te
 fn log_of_run(alloc: Global, setup: &Setup, quanta: u64) -> Result<Log, OutOfMemory>
     requires { quanta ≤ MOST_QUANTA }
     ensures records { IfOk result (λ log. log.records ≡ run_records setup.now quanta) }
-    ensures counts { IfOk result (λ log. (q : ℕ) → q ≤ quanta → point_of log.inoculated (up_to q log.records) ≡ counts_of (serial setup.now q)) }
+    ensures counts { IfOk result (λ log. (q : ℕ) → q ≤ quanta
+        → point_of log.inoculated (up_to q log.records) ≡ counts_of (serial setup.now q)) }
 {
     let inoculated = count_of(setup);
     let mut world = World::start(alloc, setup)?;
@@ -87,7 +88,8 @@ fn note_births(
     requires range { first ≤ next }
     ensures inoculated { log.new.inoculated ≡ log.old.inoculated }
     ensures living { OnOk result (living.new.items ≡ living.old.items ++ range_with_len first (next - first)) }
-    ensures records { OnOk result (log.new.records ≡ log.old.records ++ map (λ id. record_of.Birth quantum id) (range_with_len first (next - first))) }
+    ensures records { OnOk result (log.new.records
+        ≡ log.old.records ++ map (λ id. record_of.Birth quantum id) (range_with_len first (next - first))) }
 {
     for id in first..next {
         log.reserve(1)?;
@@ -112,7 +114,9 @@ fn note_deaths(
     requires died { length (filter (λ id. not (lives world.now.world id)) living.items) ≡ died }
     ensures inoculated { log.new.inoculated ≡ log.old.inoculated }
     ensures living { IfOk result (λ left. left.items ≡ filter (lives world.now.world) living.items) }
-    ensures records { IfOk result (λ left. log.new.records ≡ log.old.records ++ map (λ id. record_of.Death quantum id) (filter (λ id. not (lives world.now.world id)) living.items)) }
+    ensures records { IfOk result (λ left. log.new.records
+        ≡ log.old.records ++ map (λ id. record_of.Death quantum id)
+        (filter (λ id. not (lives world.now.world id)) living.items)) }
 {
     if died == 0 {
         return Ok(living);
@@ -133,7 +137,9 @@ fn note_each_death(
     requires once { (id : ℕ) → times_in living.now id ≤ 1 }
     ensures inoculated { log.new.inoculated ≡ log.old.inoculated }
     ensures living { IfOk result (λ left. left.items ≡ filter (lives world.now.world) living.now) }
-    ensures records { IfOk result (λ left. log.new.records ≡ log.old.records ++ map (λ id. record_of.Death quantum id) (filter (λ id. not (lives world.now.world id)) living.now)) }
+    ensures records { IfOk result (λ left. log.new.records
+        ≡ log.old.records ++ map (λ id. record_of.Death quantum id)
+        (filter (λ id. not (lives world.now.world id)) living.now)) }
 {
     let mut left = Vec::new(alloc);
     for id in living {
@@ -153,8 +159,10 @@ fn keep_or_note(
     requires order { All (λ r. quantum_of r ≤ quantum) log.old.records }
     requires present { 0 < times_in (living_in log.old.inoculated log.old.records) id }
     ensures inoculated { log.new.inoculated ≡ log.old.inoculated }
-    ensures left { OnOk result (left.new.items ≡ (if lives world.now.world id then left.old.items ++ id ∷ [] else left.old.items)) }
-    ensures records { OnOk result (log.new.records ≡ (if lives world.now.world id then log.old.records else log.old.records ++ record_of.Death quantum id ∷ [])) }
+    ensures left { OnOk result (left.new.items
+        ≡ (if lives world.now.world id then left.old.items ++ id ∷ [] else left.old.items)) }
+    ensures records { OnOk result (log.new.records
+        ≡ (if lives world.now.world id then log.old.records else log.old.records ++ record_of.Death quantum id ∷ [])) }
 {
     if lives(world, id) {
         left.push(id)?;
@@ -201,7 +209,9 @@ fn add_points(
 ) -> Result<(), OutOfMemory>
     requires few { quanta ≤ MOST_QUANTA }
     requires some { 1 ≤ every }
-    ensures { OnOk result (text.new.items ≡ text.old.items ++ flat_map (λ q. point_line q (point_of log.now.inoculated (up_to q log.now.records))) (shown quanta every)) }
+    ensures { OnOk result (text.new.items
+        ≡ text.old.items ++ flat_map
+        (λ q. point_line q (point_of log.now.inoculated (up_to q log.now.records))) (shown quanta every)) }
 {
     for quantum in 0..quanta + 1 {
         add_if_shown(alloc, text, log, quanta, every, quantum)?;
@@ -218,7 +228,9 @@ fn add_if_shown(
     quantum: u64,
 ) -> Result<(), OutOfMemory>
     requires { 1 ≤ every }
-    ensures { OnOk result (text.new.items ≡ text.old.items ++ (if is_shown quanta every quantum then point_line quantum (point_of log.now.inoculated (up_to quantum log.now.records)) else [])) }
+    ensures { OnOk result (text.new.items
+        ≡ text.old.items ++ (if is_shown quanta every quantum
+        then point_line quantum (point_of log.now.inoculated (up_to quantum log.now.records)) else [])) }
 {
     if !is_shown(quanta, every, quantum) {
         return Ok(());

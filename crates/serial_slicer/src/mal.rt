@@ -39,7 +39,9 @@ fn make_room(sole: &mut Sole, size: u32) -> Result<(), OutOfMemory>
     requires none { (front sole.old.world).daughter ≡ None }
     requires one { 1 ≤ size }
     requires few { size ≤ MOST_SIZE }
-    ensures { OnOk result (sole.new.world ≡ make_room world_machine sole.old.world.settings size (number_of_others (front sole.old.world).id sole.old.world.reaper) sole.old.world) }
+    ensures { OnOk result (sole.new.world
+        ≡ make_room world_machine sole.old.world.settings size
+        (number_of_others (front sole.old.world).id sole.old.world.reaper) sole.old.world) }
 {
     let others = sole.reaper_len() - 1;
     for _dead in 0..others {
@@ -63,8 +65,10 @@ fn take_block(sole: &mut Sole, block: Block) -> Result<(), OutOfMemory>
     requires none { (front sole.old.world).daughter ≡ None }
     requires one { 1 ≤ block.size }
     requires few { block.size ≤ MOST_SIZE }
-    requires room { room_for sole.old.world.settings (λ p. is_owned sole.old.world.living p) block.size ≡ Some block.at }
-    ensures { OnOk result (sole.new.world ≡ take_block world_machine sole.old.world.settings block.size block.at sole.old.world) }
+    requires room { room_for sole.old.world.settings (λ p. is_owned sole.old.world.living p) block.size
+        ≡ Some block.at }
+    ensures { OnOk result (sole.new.world
+        ≡ take_block world_machine sole.old.world.settings block.size block.at sole.old.world) }
 {
     sole.take(block)?;
     sole.good();

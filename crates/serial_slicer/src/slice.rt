@@ -52,7 +52,9 @@ pub(crate) fn run_quantum<L: Ledger>(
 fn disturb(sole: &mut Sole, settings: &Settings) -> Result<(), OutOfMemory>
     requires within { InQuantum sole.old.world }
     requires settings { settings.now ≡ sole.old.world.settings }
-    ensures { OnOk result (sole.new.world ≡ disturb world_machine settings.now (is_disturbed settings.now.dist_every (sole.old.world.quanta + 1)) sole.old.world) }
+    ensures { OnOk result (sole.new.world
+        ≡ disturb world_machine settings.now
+        (is_disturbed settings.now.dist_every (sole.old.world.quanta + 1)) sole.old.world) }
 {
     if is_disturbed(settings.dist_every, sole.quanta() + 1) {
         let dying = u64::from(sole.reaper_len()) * u64::from(settings.dist_percent) / 100;
@@ -99,9 +101,12 @@ fn instruction<L: Ledger>(
     requires ran { creature.old.ran < COUNT_END }
     requires settings { settings.now ≡ sole.old.world.settings }
     requires draws { draws.now ≡ draws_of settings.now (sole.old.world.quanta + 1) }
-    requires next { IsRunning (instruction world_machine settings.now (word settings.now.seed (sole.old.world.quanta + 1)) i (put creature.old sole.old.world)) }
+    requires next { IsRunning (instruction world_machine settings.now
+        (word settings.now.seed (sole.old.world.quanta + 1)) i (put creature.old sole.old.world)) }
     ensures turn { OnOk result (IsTurn creature.new sole.new) }
-    ensures world { OnOk result (put creature.new sole.new.world ≡ instruction world_machine settings.now (word settings.now.seed (sole.old.world.quanta + 1)) i (put creature.old sole.old.world)) }
+    ensures world { OnOk result (put creature.new sole.new.world
+        ≡ instruction world_machine settings.now (word settings.now.seed (sole.old.world.quanta + 1)) i
+        (put creature.old sole.old.world)) }
 {
     match step(creature, sole, draws, i, settings, steps) {
         Act::Plain | Act::Wrote { .. } => Ok(()),
@@ -124,7 +129,8 @@ fn grow(creature: &mut Creature, sole: &mut Sole, size: u32) -> Result<(), OutOf
     requires few { size ≤ MOST_SIZE }
     requires next { IsRunning (mal world_machine sole.old.world.settings size (put creature.old sole.old.world)) }
     ensures turn { OnOk result (IsTurn creature.new sole.new) }
-    ensures world { OnOk result (put creature.new sole.new.world ≡ mal world_machine sole.old.world.settings size (put creature.old sole.old.world)) }
+    ensures world { OnOk result (put creature.new sole.new.world
+        ≡ mal world_machine sole.old.world.settings size (put creature.old sole.old.world)) }
 {
     sole.put(*creature);
     mal(sole, size)?;
@@ -139,9 +145,11 @@ fn breed(alloc: Global, creature: &mut Creature, sole: &mut Sole) -> Result<(), 
     requires quantum { InQuantum (put creature.old sole.old.world) }
     requires held { IsSome creature.old.daughter }
     requires ran { 1 ≤ creature.old.ran }
-    requires next { IsRunning (perform world_machine sole.old.world.settings act.Divide (put creature.old sole.old.world)) }
+    requires next { IsRunning (perform world_machine sole.old.world.settings act.Divide
+        (put creature.old sole.old.world)) }
     ensures turn { OnOk result (IsTurn creature.new sole.new) }
-    ensures world { OnOk result (put creature.new sole.new.world ≡ perform world_machine sole.old.world.settings act.Divide (put creature.old sole.old.world)) }
+    ensures world { OnOk result (put creature.new sole.new.world
+        ≡ perform world_machine sole.old.world.settings act.Divide (put creature.old sole.old.world)) }
 {
     sole.put(*creature);
     divide(alloc, sole)?;

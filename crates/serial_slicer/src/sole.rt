@@ -224,7 +224,8 @@ impl Sole {
         requires within { IsRunning self.old.world }
         requires held { IsSome (front self.old.world).daughter }
         requires ran { 1 ≤ (front self.old.world).ran }
-        ensures { OnOk result (self.new.world ≡ apply_event self.old.world (event.Divide (front self.old.world).ran (front self.old.world).moved)) }
+        ensures { OnOk result (self.new.world
+            ≡ apply_event self.old.world (event.Divide (front self.old.world).ran (front self.old.world).moved)) }
     {
         let code = self.running.daughter_code(alloc)?;
         self.running.reserve(1, 0)?;
@@ -237,7 +238,10 @@ impl Sole {
     pub(crate) fn flip(&mut self, draws: &Draws)
         requires within { IsRunning self.old.world }
         requires draws { draws.now ≡ draws_of self.old.world.settings (self.old.world.quanta + 1) }
-        ensures { self.new.world ≡ flip world_machine self.old.world.settings (back_flip self.old.world.settings.back_rate (word self.old.world.settings.seed (self.old.world.quanta + 1)) self.old.world.settings.soup_size) self.old.world }
+        ensures { self.new.world ≡ flip world_machine self.old.world.settings
+            (back_flip self.old.world.settings.back_rate
+            (word self.old.world.settings.seed (self.old.world.quanta + 1)) self.old.world.settings.soup_size)
+            self.old.world }
     {
         if let Some((at, bit)) = draws.back() {
             let value = flip_bit(self.running.cell(at), bit);

@@ -111,7 +111,8 @@ impl Pages {
     /// The cells of a page of 4096, of which the last may have fewer.
     pub(crate) fn page(&self, number: u32) -> &[u8]
         requires { 4096 * number < length self.now.cells }
-        ensures { result.now ≡ slice_range self.now.cells (4096 * number) (min (4096 * number + 4096) (length self.now.cells)) }
+        ensures { result.now ≡ slice_range self.now.cells (4096 * number)
+            (min (4096 * number + 4096) (length self.now.cells)) }
     {
         self.pages[number as usize].cells()
     }

@@ -144,8 +144,10 @@ impl Shelf {
         requires sound { HasNoFault (D.state desk.old) }
 
         // The world is that of the file as it was read at the start. A refusal says what is wrong with that file.
-        ensures attached { IfOk result (λ x. Attaches (owner_of setup.now) (D.state desk.old) (D.state desk.new) x.0 x.1) }
-        ensures refused { IfErr result (λ e. IfHoldRefused e (Refuses (owner_of setup.now) (D.state desk.old) (D.state desk.new))) }
+        ensures attached { IfOk result
+            (λ x. Attaches (owner_of setup.now) (D.state desk.old) (D.state desk.new) x.0 x.1) }
+        ensures refused { IfErr result
+            (λ e. IfHoldRefused e (Refuses (owner_of setup.now) (D.state desk.old) (D.state desk.new))) }
         ensures kinds { IfErr result (λ e. IfHoldRefused e IsOfFile) }
 
         // A file that is there is not written, nor is one that is refused, at any moment and whatever comes.

@@ -41,7 +41,8 @@ fn hold_each<D: Desk>(
     requires not_beyond { world.world.quanta ≤ quanta }
     requires few { quanta ≤ MOST_QUANTA }
     requires every { 1 ≤ every }
-    ensures held { IfOk result (λ w. (s : ShelfState) × HasHeld shelf.owner world.world (held_quanta every world.world.quanta quanta)
+    ensures held { IfOk result (λ w. (s : ShelfState)
+        × HasHeld shelf.owner world.world (held_quanta every world.world.quanta quanta)
         (D.state desk.old) (D.state desk.new) (length (held_quanta every world.world.quanta quanta)) s w.world) }
     ensures later { IfOk result (λ w. w.world.quanta ≤ quanta) }
     ensures last { IfOk result (λ w. after (quanta - w.world.quanta) w.world ≡ world_at world.world quanta) }
@@ -90,8 +91,10 @@ fn hold_from<D: Desk>(
     ensures told { TellsText (D.state desk.old) (D.state desk.new) (hold_text world.world quanta every) result }
     ensures unfinished { IfErr result (λ s. UnlessTelling s
         (AppendedLess (D.state desk.old).told (hold_text world.world quanta every) (D.state desk.new).told)) }
-    ensures small { OnOk result (All (λ q. IsSmall (world_at world.world q)) (held_quanta every world.world.quanta quanta)) }
-    ensures large { IfErr result (λ s. IfRefused s (IsLargeFirst world.world (held_quanta every world.world.quanta quanta))) }
+    ensures small { OnOk result (All
+        (λ q. IsSmall (world_at world.world q)) (held_quanta every world.world.quanta quanta)) }
+    ensures large { IfErr result (λ s. IfRefused s
+        (IsLargeFirst world.world (held_quanta every world.world.quanta quanta))) }
     ensures moments { IfSome (D.state desk.old).reads (λ file. Elapses (D.state desk.old) (D.state desk.new)
         (IsHolding shelf.owner (SaysSame shelf.owner file) world.world (held_quanta every world.world.quanta quanta)
         (D.state desk.old).told)) }
@@ -155,7 +158,8 @@ pub fn hold<D: Desk>(
     // A refusal has its reason. Where it comes before a state is appended, nothing was told, and no byte written at any
     // moment.
     ensures refused { IfErr result (λ s. IfRefused s (RefusesHold setup.now quanta every (D.state desk.old).reads)) }
-    ensures untold { IfErr result (λ s. IfRefused s (λ f. IsEarly f → (D.state desk.new).told ≡ (D.state desk.old).told)) }
+    ensures untold { IfErr result (λ s. IfRefused s (λ f. IsEarly f
+        → (D.state desk.new).told ≡ (D.state desk.old).told)) }
     ensures unwritten { IfErr result (λ s. IfRefused s (λ f. IsEarly f → IfSome (D.state desk.old).reads (λ file.
         IsUnwritten (D.state desk.old) (D.state desk.new)))) }
     ensures quiet { (f : HoldFault) → IsEarly f → IfSome (D.state desk.old).reads (λ file.
@@ -166,7 +170,8 @@ pub fn hold<D: Desk>(
     // that was appended since: no earlier than any whose line was told, and at most one later.
     ensures moments { (held : Option (List ℕ)) (first : WorldFields)
         → DiskHolds setup.now held (D.state desk.old).reads (D.state desk.old).may_leave → IsFirst setup.now held first
-        → Elapses (D.state desk.old) (D.state desk.new) (IsHolding (owner_of setup.now) (HoldsState setup.now held) first
+        → Elapses (D.state desk.old) (D.state desk.new)
+        (IsHolding (owner_of setup.now) (HoldsState setup.now held) first
         (held_quanta every first.quanta quanta) (D.state desk.old).told) }
     ensures counts { CountsStops result (D.state desk.new) }
 

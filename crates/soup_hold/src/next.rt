@@ -94,10 +94,13 @@ pub(crate) fn hold_next<D: Desk>(
     requires later { world.world.quanta ≤ quantum }
     requires few { quantum ≤ MOST_QUANTA }
     ensures world { IfOk result (λ x. x.1.world ≡ after (quantum - world.world.quanta) world.world) }
-    ensures held { IfOk result (λ x. HoldsNext shelf (after (quantum - world.world.quanta) world.world) (D.state desk.old) (D.state desk.new) x.0) }
-    ensures large { IfErr result (λ s. IfRefused s (IsLargeAt (after (quantum - world.world.quanta) world.world) quantum)) }
+    ensures held { IfOk result (λ x. HoldsNext shelf (after (quantum - world.world.quanta) world.world)
+        (D.state desk.old) (D.state desk.new) x.0) }
+    ensures large { IfErr result (λ s. IfRefused s
+        (IsLargeAt (after (quantum - world.world.quanta) world.world) quantum)) }
     ensures moments { IfSome (D.state desk.old).reads (λ file. Elapses (D.state desk.old) (D.state desk.new)
-        (IsHoldingNext shelf.owner file (after (quantum - world.world.quanta) world.world) (held_line quantum) (D.state desk.old).told)) }
+        (IsHoldingNext shelf.owner file (after (quantum - world.world.quanta) world.world) (held_line quantum)
+        (D.state desk.old).told)) }
     ensures told { TellsText (D.state desk.old) (D.state desk.new) (held_line quantum) result }
     ensures counts { CountsStops result (D.state desk.new) }
 {

@@ -145,7 +145,8 @@ fn run_parts<R: Threads + Sync>(
             ensures { IfOk result (λ v. map (λ w. w.world) v.items ≡ worlds_of theirs.entry.now quanta) }
         { run_parts(rt, alloc, theirs, quanta, others) },
         || -> Result<Vec<World>, OutOfMemory>
-            requires { IsSync R.row × ((1 ≤ quanta) × (quanta ≤ MOST_QUANTA)) × ((1 ≤ others) × (others < workers) × (workers ≤ 64)) }
+            requires { IsSync R.row × ((1 ≤ quanta) × (quanta ≤ MOST_QUANTA))
+                × ((1 ≤ others) × (others < workers) × (workers ≤ 64)) }
             ensures { IfOk result (λ v. map (λ w. w.world) v.items ≡ worlds_of ours.entry.now quanta) }
         { run_parts(rt, alloc, ours, quanta, workers - others) },
     );

@@ -67,7 +67,8 @@ fn next_creatures(
     requires place { place < length worlds.now }
     requires few { length worlds.now ≤ 64 }
     ensures creatures { IfOk result (λ v. v.items ≡ next_creatures worlds.now place) }
-    ensures setup { IfOk result (λ v. IsSetup (record { settings = (world_at worlds.now place).settings; creatures = v.items })) }
+    ensures setup { IfOk result (λ v. IsSetup
+        (record { settings = (world_at worlds.now place).settings; creatures = v.items })) }
 {
     let world = worlds.get(place);
     let mut creatures = settlers(alloc, world)?;

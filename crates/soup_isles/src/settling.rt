@@ -79,7 +79,8 @@ pub(crate) fn add_migrant(
 ) -> Result<(), OutOfMemory>
     requires setup { IsSetup (record { settings = settings.now; creatures = creatures.old.items }) }
     requires code { IsCode code }
-    ensures creatures { OnOk result (creatures.new.items ≡ with_migrant settings.now.soup_size creatures.old.items code) }
+    ensures creatures { OnOk result (creatures.new.items
+        ≡ with_migrant settings.now.soup_size creatures.old.items code) }
     ensures setup { OnOk result (IsSetup (record { settings = settings.now; creatures = creatures.new.items })) }
 {
     if let Some(at) = room_beside(alloc, creatures, settings, code.items.len() as u32)? {

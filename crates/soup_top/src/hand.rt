@@ -115,12 +115,14 @@ impl<D: Desk> Hand for RunHand<'_, '_, '_, D> {
 
     ghost halts = { λ h. number_of_stops h.keeper.now.stopped };
 
-    ghost can_put = { λ h. (h.start.now.quanta ≤ MOST_QUANTA) × IsOnTheWay D.state h.start.now h.desk.now h.keeper.now };
+    ghost can_put = { λ h. (h.start.now.quanta ≤ MOST_QUANTA)
+        × IsOnTheWay D.state h.start.now h.desk.now h.keeper.now };
 
     // The same desk and keeper, and of the same start. Where the one is on its way, the other is.
     ghost goes_to = { λ a b. (b.desk.ghost_name ≡ a.desk.ghost_name) × (b.keeper.ghost_name ≡ a.keeper.ghost_name)
         × (b.start.now ≡ a.start.now)
-        × (IsOnTheWay D.state a.start.now a.desk.now a.keeper.now → IsOnTheWay D.state b.start.now b.desk.now b.keeper.now) };
+        × (IsOnTheWay D.state a.start.now a.desk.now a.keeper.now
+        → IsOnTheWay D.state b.start.now b.desk.now b.keeper.now) };
 
     fn done(&self) -> u64 {
         self.keeper.done as u64
@@ -154,7 +156,8 @@ fn run_book<R: Threads + Wait + Sync, G: Gate + Sync, D: Desk>(
     requires begun { keeper.old.done ≡ 0 }
     requires way { GoesOn D.state start.now desk.old keeper.old }
     ensures way { IsOnTheWay D.state start.now desk.new keeper.new }
-    ensures ended { IfEnded result (λ b. (b.setup ≡ start.now.setup.value) × (b.quanta ≡ start.now.quanta) × (b.committed ≡ b.quanta)) }
+    ensures ended { IfEnded result (λ b. (b.setup ≡ start.now.setup.value) × (b.quanta ≡ start.now.quanta)
+        × (b.committed ≡ b.quanta)) }
     ensures all { IfEnded result (λ b. keeper.new.done ≡ length (run_groups start.now.setup.value start.now.quanta)) }
     ensures halts { HaltsAsIn result (number_of_stops keeper.new.stopped) }
 {

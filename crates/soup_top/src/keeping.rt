@@ -39,7 +39,8 @@ fn append_group<D: Desk>(desk: &mut D, bank: Bank, group: Group) -> Result<Bank,
     ensures appended { IfOk result (Appends bank group (D.state desk.old) (D.state desk.new)) }
     ensures refused { IfErr result (λ s. IfRefused s (λ f. ⊥)) }
     ensures of_bank { IfErr result (λ s. IfHoldRefused s (λ f. ⊥)) }
-    ensures moments { UsesDisk (D.state desk.old) (D.state desk.new) (IfTold (D.state desk.old) (λ file. HasBeforeOrAfter bank.digest bank.groups group)) }
+    ensures moments { UsesDisk (D.state desk.old) (D.state desk.new)
+        (IfTold (D.state desk.old) (λ file. HasBeforeOrAfter bank.digest bank.groups group)) }
     ensures counts { CountsStops result (D.state desk.new) }
 {
     let mut bank = bank;
@@ -49,7 +50,8 @@ fn append_group<D: Desk>(desk: &mut D, bank: Bank, group: Group) -> Result<Bank,
 
 // Whether the bank's group of the number fits the run's, where the bank has one.
 fn fits_at(bank: &Bank, number: usize, group: &Group) -> Option<bool>
-    ensures { MatchOption result (length bank.now.groups ≤ number) (λ fits. (d : GroupFields) × (slice_get bank.now.groups number ≡ Some d)
+    ensures { MatchOption result (length bank.now.groups ≤ number) (λ fits. (d : GroupFields)
+        × (slice_get bank.now.groups number ≡ Some d)
         × (IsTrue fits ↔ GroupFits d group.now)) }
 {
     let kept = bank.groups().get(number)?;
@@ -68,7 +70,8 @@ fn keep_group<D: Desk>(
     ensures taken { IfOk result (Takes bank number group (D.state desk.old) (D.state desk.new)) }
     ensures differs { IfErr result (λ s. IfDiffers s (λ k. (k ≡ number) × DiffersAt bank.groups number group)) }
     ensures untouched { number < length bank.groups → desk.new ≡ desk.old }
-    ensures moments { UsesDisk (D.state desk.old) (D.state desk.new) (IfTold (D.state desk.old) (λ file. HasBeforeOrAfter bank.digest bank.groups group)) }
+    ensures moments { UsesDisk (D.state desk.old) (D.state desk.new)
+        (IfTold (D.state desk.old) (λ file. HasBeforeOrAfter bank.digest bank.groups group)) }
     ensures counts { CountsStops result (D.state desk.new) }
 {
     match fits_at(&bank, number, &group) {
@@ -92,9 +95,13 @@ pub(crate) fn take_group<D: Desk>(
     requires attached { IsAttached bank (D.state desk.old) }
     requires inside { number ≤ length bank.groups }
     ensures taken { IfOk result (Takes bank number group (D.state desk.old) (D.state desk.new)) }
-    ensures differs { IfErr result (λ s. IfDiffers s (λ k. (k ≡ number) × DiffersAt bank.groups number group × ((D.state desk.new).told ≡ (D.state desk.old).told))) }
+    ensures differs { IfErr result
+        (λ s. IfDiffers s (λ k. (k ≡ number) × DiffersAt bank.groups number group
+        × ((D.state desk.new).told ≡ (D.state desk.old).told))) }
     ensures kept { number < length bank.groups → KeepsDisk (D.state desk.old) (D.state desk.new) }
-    ensures moments { IfSome (D.state desk.old).reads (λ file. Elapses (D.state desk.old) (D.state desk.new) (IsTaking bank.digest bank.groups number group (D.state desk.old).told)) }
+    ensures moments { IfSome (D.state desk.old).reads
+        (λ file. Elapses (D.state desk.old) (D.state desk.new)
+        (IsTaking bank.digest bank.groups number group (D.state desk.old).told)) }
     ensures told { TellsText (D.state desk.old) (D.state desk.new) (group_lines group) result }
     ensures counts { CountsStops result (D.state desk.new) }
 {

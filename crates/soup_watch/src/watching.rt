@@ -235,7 +235,8 @@ fn crew_from<R: Threads + Wait + Sync, G: Gate + Sync>(
             requires { (IsSync R.row × IsSync G.row) × IsThere mine (IsFirst lock.now (caller + 1))
                 × ((2 ≤ caller) × (caller < observer) × (observer ≤ 64))
                 × ((looks ≤ 1000) × (lock.now.opening.setup.1 ≡ quanta) × (quanta ≤ MOST_QUANTA)) }
-            ensures { IfOk result (IsWatched lock.entry.now.opening.setup.0 lock.entry.now (caller + 1) observer looks) }
+            ensures { IfOk result
+                (IsWatched lock.entry.now.opening.setup.0 lock.entry.now (caller + 1) observer looks) }
         {
             crew_from(
                 rt,

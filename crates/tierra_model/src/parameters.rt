@@ -43,7 +43,8 @@ pub struct Settings {
     pub dist_percent: u32,
     pub ghost soup: { (SOUP_SIZE.least ≤ soup_size) × (soup_size ≤ SOUP_SIZE.greatest) },
     pub ghost slice: { (SLICE_SIZE.least ≤ slice_size) × (slice_size ≤ SLICE_SIZE.greatest) },
-    pub ghost by_size: { (SLICE_NUM.least ≤ slice_num) × (slice_num ≤ SLICE_NUM.greatest) × (SLICE_DEN.least ≤ slice_den) × (slice_den ≤ SLICE_DEN.greatest) },
+    pub ghost by_size: { (SLICE_NUM.least ≤ slice_num) × (slice_num ≤ SLICE_NUM.greatest)
+        × (SLICE_DEN.least ≤ slice_den) × (slice_den ≤ SLICE_DEN.greatest) },
     pub ghost search: { (SEARCH_LIMIT.least ≤ search_limit) × (search_limit ≤ SEARCH_LIMIT.greatest) },
     pub ghost template: { (MIN_TEMPLATE.least ≤ min_template) × (min_template ≤ MIN_TEMPLATE.greatest) },
     pub ghost cells: { (MIN_CELL.least ≤ min_cell) × (min_cell ≤ max_cell) × (max_cell ≤ MAX_CELL.greatest) },

@@ -47,11 +47,14 @@ pub trait View {
     ghost look_keeps_writable: { (v : Self) (p q : ℕ) → writable (looked v p) q ≡ writable v q };
 
     /// A write changes that cell alone, and not what may be written.
-    ghost write_keeps_size: { (v : Self) (p x : ℕ) → p < size v → writable v p ≡ true → x < 32 → size (written v p x) ≡ size v };
+    ghost write_keeps_size: { (v : Self) (p x : ℕ) → p < size v → writable v p ≡ true → x < 32
+        → size (written v p x) ≡ size v };
 
-    ghost write_sets_cell: { (v : Self) (p x q : ℕ) → p < size v → writable v p ≡ true → x < 32 → q < size v → cells (written v p x) q ≡ (if q == p then x else cells v q) };
+    ghost write_sets_cell: { (v : Self) (p x q : ℕ) → p < size v → writable v p ≡ true → x < 32 → q < size v
+        → cells (written v p x) q ≡ (if q == p then x else cells v q) };
 
-    ghost write_keeps_writable: { (v : Self) (p x q : ℕ) → p < size v → writable v p ≡ true → x < 32 → writable (written v p x) q ≡ writable v q };
+    ghost write_keeps_writable: { (v : Self) (p x q : ℕ) → p < size v → writable v p ≡ true → x < 32
+        → writable (written v p x) q ≡ writable v q };
 }
 
 /// A world as it is now, for comparison with what a quantum read.

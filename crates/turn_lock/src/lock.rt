@@ -319,7 +319,8 @@ impl<T: Kept> TurnLock<T> {
         requires lock { table_seat.old.table_id ≡ self.now.id }
         requires waits { table_seat.old.me.0.stage ≡ Waiting ticket }
         ensures same { (table_seat.new.table_id ≡ table_seat.old.table_id) × (table_seat.new.id ≡ table_seat.old.id) }
-        ensures called { IfNone result (table_seat.new.me ≡ (at_stage table_seat.old.me.0 (Called ticket []), table_seat.old.me.1)) }
+        ensures called { IfNone result (table_seat.new.me
+            ≡ (at_stage table_seat.old.me.0 (Called ticket []), table_seat.old.me.1)) }
         ensures waits { IfSome result (λ _. table_seat.new.me ≡ table_seat.old.me) }
     {
         let serving = self.table.shared.load::<LoadServing>(table_seat, 1);

@@ -45,7 +45,8 @@ impl Tally {
     // One entry more by this caller, where it can be counted.
     fn advance(&mut self, caller: u32)
         requires { (1 ≤ caller) × (caller ≤ 64) }
-        ensures { let summary = summary_of ⟦<Tally as Kept>⟧.setup ⟦<Tally as Kept>⟧.committed ⟦<Tally as Kept>⟧.entries in
+        ensures { let summary = summary_of ⟦<Tally as Kept>⟧.setup ⟦<Tally as Kept>⟧.committed ⟦<Tally as Kept>⟧.entries
+            in
             Commits caller (summary self.old) (summary self.new) }
     {
         let at = caller as usize - 1;

@@ -106,7 +106,8 @@ impl Genes {
         requires counts { All (λ g. g.total < 2 ^ 60) self.old.genotypes }
         ensures genotypes { self.new.genotypes ≡ (with_individual self.old.genotypes code parent q).0 }
         ensures number { result ≡ (with_individual self.old.genotypes code parent q).1 }
-        ensures saved { self.new.saved ≡ savings_after save_at (with_individual self.old.genotypes code parent q).0 result q self.old.saved }
+        ensures saved { self.new.saved
+            ≡ savings_after save_at (with_individual self.old.genotypes code parent q).0 result q self.old.saved }
         ensures room { self.old.spare ≤ self.new.spare + 1 }
     {
         let genotype = self.genotypes.note_birth(code, parent, q);

@@ -98,7 +98,10 @@ fn take_group(
     requires known { All (λ s. s.genotype < length genotypes.now.genotypes) (savings_of savings.now) }
     requires parents { ParentsBelow 0 genotypes.now.genotypes }
     requires range { IsGroup (group_of genotypes.now.genotypes (quantum_of savings.now) (savings_of savings.now)) }
-    ensures { OnOk result ((rest : List GroupFields) → groups.new.items ++ drop skip.new rest ≡ groups.old.items ++ drop skip.old (group_of genotypes.now.genotypes (quantum_of savings.now) (savings_of savings.now) ∷ rest)) }
+    ensures { OnOk result ((rest : List GroupFields)
+        → groups.new.items ++ drop skip.new rest
+        ≡ groups.old.items ++ drop skip.old
+        (group_of genotypes.now.genotypes (quantum_of savings.now) (savings_of savings.now) ∷ rest)) }
 {
     if *skip > 0 {
         *skip -= 1;
@@ -113,7 +116,8 @@ fn group(alloc: Global, genotypes: &Genotypes, savings: &[Saving]) -> Result<Gro
     requires known { All (λ s. s.genotype < length genotypes.now.genotypes) (savings_of savings.now) }
     requires parents { ParentsBelow 0 genotypes.now.genotypes }
     requires range { IsGroup (group_of genotypes.now.genotypes (quantum_of savings.now) (savings_of savings.now)) }
-    ensures { IfOk result (λ g. g ≡ group_of genotypes.now.genotypes (quantum_of savings.now) (savings_of savings.now)) }
+    ensures { IfOk result
+        (λ g. g ≡ group_of genotypes.now.genotypes (quantum_of savings.now) (savings_of savings.now)) }
 {
     let quantum = savings[0].quantum;
     let mut items = Vec::with_capacity(alloc, savings.len())?;
@@ -145,7 +149,8 @@ fn saved(alloc: Global, genotypes: &Genotypes, saving: &Saving) -> Result<Saved,
 fn parent_name(genotypes: &Genotypes, number: u64) -> Option<Name>
     requires known { number < length genotypes.now.genotypes }
     requires parents { ParentsBelow 0 genotypes.now.genotypes }
-    ensures { result ≡ option_map (name_of genotypes.now.genotypes) (genotype_at genotypes.now.genotypes number).parent }
+    ensures { result ≡ option_map (name_of genotypes.now.genotypes)
+        (genotype_at genotypes.now.genotypes number).parent }
 {
     match genotypes.parent_of(number) {
         Some(parent) => Some(genotypes.name_of(parent)),

@@ -37,7 +37,11 @@ impl Model for Living {
 
     ghost Value = { LivingFields };
 
-    ghost view = { λ l. record { creatures = l.creatures.items; spare = deque_capacity l.creatures - deque_len l.creatures } };
+    ghost view = { λ l. record {
+      creatures = l.creatures.items;
+      spare = deque_capacity l.creatures - deque_len
+          l.creatures;
+    } };
 
     ghost invariant = { λ l. Ordered 1 (ids_of l.creatures.items) };
 }
@@ -129,7 +133,8 @@ impl Living {
 // Where the creature stands, if it does.
 fn place_of(creatures: &VecDeque<Creature>, places: &Places, id: u64) -> Option<usize>
     requires { Ordered 1 (ids_of creatures.now.items) }
-    ensures some { IfSome result (λ place. HoldsAt (λ c. c.id ≡ id) creatures.now.items place × (place < length creatures.now.items)) }
+    ensures some { IfSome result (λ place. HoldsAt (λ c. c.id ≡ id) creatures.now.items place
+        × (place < length creatures.now.items)) }
     ensures none { IfNone result (times_in (ids_of creatures.now.items) id ≡ 0) }
 {
     match place_near(creatures, places.place(id), id) {
@@ -140,7 +145,8 @@ fn place_of(creatures: &VecDeque<Creature>, places: &Places, id: u64) -> Option<
 
 // Where the creature stands, if that is one of the few places from the first on.
 fn place_near(creatures: &VecDeque<Creature>, first: usize, id: u64) -> Option<usize>
-    ensures { IfSome result (λ place. HoldsAt (λ c. c.id ≡ id) creatures.now.items place × (place < length creatures.now.items)) }
+    ensures { IfSome result (λ place. HoldsAt (λ c. c.id ≡ id) creatures.now.items place
+        × (place < length creatures.now.items)) }
 {
     for place in first..first.saturating_add(NEAR).min(creatures.len()) {
         if creatures[place].id == id {
@@ -153,7 +159,8 @@ fn place_near(creatures: &VecDeque<Creature>, first: usize, id: u64) -> Option<u
 // Where the creature stands, if it does, by a search.
 fn search(creatures: &VecDeque<Creature>, id: u64) -> Option<usize>
     requires { Ordered 1 (ids_of creatures.now.items) }
-    ensures some { IfSome result (λ place. HoldsAt (λ c. c.id ≡ id) creatures.now.items place × (place < length creatures.now.items)) }
+    ensures some { IfSome result (λ place. HoldsAt (λ c. c.id ≡ id) creatures.now.items place
+        × (place < length creatures.now.items)) }
     ensures none { IfNone result (times_in (ids_of creatures.now.items) id ≡ 0) }
 {
     let place = born_before(creatures, id);

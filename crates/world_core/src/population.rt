@@ -179,7 +179,9 @@ impl Population {
         requires small { creature.errors ≤ 2 ^ 60 }
         ensures living { self.new.living ≡ with_record creature self.old.living }
         ensures slicer { self.new.slicer ≡ self.old.slicer }
-        ensures reaper { self.new.reaper ≡ error_move (λ id. id == creature.id) (λ id. (one_of (with_record creature self.old.living) id).errors) self.old.reaper }
+        ensures reaper { self.new.reaper
+            ≡ error_move (λ id. id == creature.id)
+            (λ id. (one_of (with_record creature self.old.living) id).errors) self.old.reaper }
         ensures room { self.new.spare ≡ self.old.spare }
     {
         self.reaper.error(creature.id);
@@ -191,7 +193,8 @@ impl Population {
         requires { 0 < times_in self.old.reaper id }
         ensures living { self.new.living ≡ self.old.living }
         ensures slicer { self.new.slicer ≡ self.old.slicer }
-        ensures reaper { self.new.reaper ≡ good_move (λ x. x == id) (λ x. (one_of self.old.living x).errors) self.old.reaper }
+        ensures reaper { self.new.reaper
+            ≡ good_move (λ x. x == id) (λ x. (one_of self.old.living x).errors) self.old.reaper }
         ensures room { self.new.spare ≡ self.old.spare }
     {
         self.reaper.good(id);

@@ -206,7 +206,8 @@ fn push_code(
 ) -> Result<(), OutOfMemory>
     requires block { IfSome held (λ b. b.at + b.size ≤ length running.now.world.soup) }
     requires small { length running.now.world.soup < 2 ^ 32 }
-    ensures { OnOk result (codes.new.items ≡ codes.old.items ++ code_at event held (with_writes before.now running.now.world.soup)) }
+    ensures { OnOk result (codes.new.items
+        ≡ codes.old.items ++ code_at event held (with_writes before.now running.now.world.soup)) }
 {
     if let (Event::Divide { .. }, Some(block)) = (event, held) {
         codes.push_back(code_after(alloc, running, before, block)?)?;
@@ -223,7 +224,8 @@ fn code_after(
 ) -> Result<Code, OutOfMemory>
     requires lies { block.at + block.size ≤ length running.now.world.soup }
     requires small { length running.now.world.soup < 2 ^ 32 }
-    ensures { IfOk result (λ code. code ≡ slice_range (with_writes events.now running.now.world.soup) block.at (block.at + block.size)) }
+    ensures { IfOk result (λ code. code
+        ≡ slice_range (with_writes events.now running.now.world.soup) block.at (block.at + block.size)) }
 {
     let mut code = running.block_code(alloc, block)?;
     for event in events {
@@ -262,7 +264,8 @@ fn do_event(running: &mut Running, event: Event, codes: &mut VecDeque<Code>)
     requires running { IsRunning running.old.world }
     requires can { CanHappen running.old.world event }
     requires cell { CanWrite running.old event }
-    requires code { codes.old.items ≡ code_born running.old.world event ++ drop (length (code_born running.old.world event)) codes.old.items }
+    requires code { codes.old.items
+        ≡ code_born running.old.world event ++ drop (length (code_born running.old.world event)) codes.old.items }
     requires births { births_of event ≤ running.old.births }
     requires blocks { blocks_of event ≤ running.old.blocks }
     ensures world { running.new.world ≡ apply_event running.old.world event }
@@ -285,13 +288,16 @@ fn do_event(running: &mut Running, event: Event, codes: &mut VecDeque<Code>)
 fn divide(running: &mut Running, ran: u64, moved: u64, codes: &mut VecDeque<Code>)
     requires running { IsRunning running.old.world }
     requires can { CanHappen running.old.world (event.Divide ran moved) }
-    requires code { codes.old.items ≡ code_born running.old.world (event.Divide ran moved) ++ drop (length (code_born running.old.world (event.Divide ran moved))) codes.old.items }
+    requires code { codes.old.items
+        ≡ code_born running.old.world (event.Divide ran moved)
+        ++ drop (length (code_born running.old.world (event.Divide ran moved))) codes.old.items }
     requires births { 1 ≤ running.old.births }
     ensures world { running.new.world ≡ apply_event running.old.world (event.Divide ran moved) }
     ensures ready { KeepsReady running.old running.new }
     ensures births { running.old.births ≤ running.new.births + 1 }
     ensures blocks { running.new.blocks ≡ running.old.blocks }
-    ensures codes { codes.new.items ≡ drop (length (code_born running.old.world (event.Divide ran moved))) codes.old.items }
+    ensures codes { codes.new.items
+        ≡ drop (length (code_born running.old.world (event.Divide ran moved))) codes.old.items }
 {
     match codes.pop_front() {
         Some(code) => running.divide(ran, moved, code),

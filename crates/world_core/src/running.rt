@@ -349,7 +349,8 @@ impl Running {
     pub fn daughter_code(&self, alloc: Global) -> Result<Code, OutOfMemory>
         requires within { IsRunning self.now.world }
         requires held { IsSome (front self.now.world).daughter }
-        ensures { IfOk result (λ code. IfSome (front self.now.world).daughter (λ b. code ≡ slice_range self.now.world.soup b.at (b.at + b.size))) }
+        ensures { IfOk result (λ code. IfSome (front self.now.world).daughter (λ b. code
+            ≡ slice_range self.now.world.soup b.at (b.at + b.size))) }
     {
         let block = self.population.front().daughter.unwrap();
         code_of(alloc, &self.soup, block)
@@ -500,7 +501,8 @@ impl Running {
     pub fn divide(&mut self, ran: u64, moved: u64, code: Code)
         requires within { IsRunning self.old.world }
         requires can { CanHappen self.old.world (event.Divide ran moved) }
-        requires code { IfSome (front self.old.world).daughter (λ b. code ≡ slice_range self.old.world.soup b.at (b.at + b.size)) }
+        requires code { IfSome (front self.old.world).daughter (λ b. code
+            ≡ slice_range self.old.world.soup b.at (b.at + b.size)) }
         requires room { 0 < self.old.births }
         ensures world { self.new.world ≡ apply_event self.old.world (event.Divide ran moved) }
         ensures ready { KeepsReady self.old self.new }
@@ -579,7 +581,8 @@ fn give_back_all(blocks: &mut Blocks, creature: &Creature)
     requires apart { (p : ℕ) → is_in creature.now.own p ≡ true → is_in_daughter creature.now.daughter p ≡ false }
     requires room { 2 ≤ blocks.old.spare }
     ensures size { blocks.new.size ≡ blocks.old.size }
-    ensures free { blocks.new.free ≡ runs_of blocks.old.size (λ p. is_in_some blocks.old.free p || holds creature.now p) }
+    ensures free { blocks.new.free
+        ≡ runs_of blocks.old.size (λ p. is_in_some blocks.old.free p || holds creature.now p) }
     ensures room { blocks.old.spare ≤ blocks.new.spare + 2 }
 {
     blocks.give_back(creature.own);
@@ -592,7 +595,8 @@ fn give_back_daughter(blocks: &mut Blocks, daughter: Option<Block>)
     requires owned { (p : ℕ) → is_in_daughter daughter p ≡ true → is_in_some blocks.old.free p ≡ false }
     requires room { 0 < blocks.old.spare }
     ensures size { blocks.new.size ≡ blocks.old.size }
-    ensures free { blocks.new.free ≡ runs_of blocks.old.size (λ p. is_in_some blocks.old.free p || is_in_daughter daughter p) }
+    ensures free { blocks.new.free
+        ≡ runs_of blocks.old.size (λ p. is_in_some blocks.old.free p || is_in_daughter daughter p) }
     ensures room { blocks.old.spare ≤ blocks.new.spare + 1 }
 {
     if let Some(block) = daughter {

@@ -94,7 +94,8 @@ fn push_living(out: &mut Vec<u8>, running: &Running) -> Result<(), OutOfMemory>
 fn push_creatures(out: &mut Vec<u8>, running: &Running, count: u32) -> Result<(), OutOfMemory>
     requires sound { IsSound running.now.world }
     requires count { length running.now.world.slicer ≡ count }
-    ensures { OnOk result (out.new.items ≡ out.old.items ++ flat_map creature_bytes (map (one_of running.now.world.living) running.now.world.slicer)) }
+    ensures { OnOk result (out.new.items
+        ≡ out.old.items ++ flat_map creature_bytes (map (one_of running.now.world.living) running.now.world.slicer)) }
 {
     for k in 0..count {
         match running.place(k) {
@@ -228,7 +229,8 @@ fn push_genotype(out: &mut Vec<u8>, genotypes: &Genotypes, number: u64) -> Resul
     requires known { number < length genotypes.now.genotypes }
     requires short { length (genotype_at genotypes.now.genotypes number).code < 2 ^ 32 }
     requires parent { IfSome (genotype_at genotypes.now.genotypes number).parent (λ p. p < 2 ^ 60) }
-    ensures { OnOk result (out.new.items ≡ out.old.items ++ genotype_bytes (genotype_at genotypes.now.genotypes number)) }
+    ensures { OnOk result (out.new.items
+        ≡ out.old.items ++ genotype_bytes (genotype_at genotypes.now.genotypes number)) }
 {
     push_code(out, genotypes.code_of(number))?;
     push_parent(out, genotypes.parent_of(number))?;

@@ -95,7 +95,8 @@ impl View for Flat {
 
     ghost write_keeps_size = { λ v p x _ _ _. length-set v.0 p x };
 
-    ghost write_sets_cell = { λ v p x q here _ _ there. Prim.grind (arith, nat_tests, get_or-set_at, get_or-set_other) };
+    ghost write_sets_cell = { λ v p x q here _ _ there. Prim.grind
+        (arith, nat_tests, get_or-set_at, get_or-set_other) };
 
     ghost write_keeps_writable = { λ v p x q _ _ _. refl };
 
