@@ -5,12 +5,13 @@ ghost use Rattle.std.specs.Char.{is_ascii_lowercase};
 ghost use Rattle.std.specs.List.{list_all};
 ghost use Rattle.std.specs.Str.{all_ascii_digits};
 ghost use Rattle.tierra_model.specs.declared.genebank.Name.{Name};
+ghost use Rattle.tierra_model.specs.declared.limits.TheConstants.{COUNT_END};
 ghost use Rattle.tierra_model.specs.Groups.{IsName};
 ghost use Rattle.genotyper.specs.Names.{are_letters, digits_of, is_size, is_word, letters_of, name_in, name_text, rank_of, shorter_words, size_text, value_in, word};
 
 use std::alloc::Global;
 use thiserror::Error;
-use tierra_model::{Name, OutOfMemory, Text};
+use tierra_model::{COUNT_END, MOST_SIZE, Name, OutOfMemory, Text};
 
 /// What is wrong with a text that is no name: first its digits are looked at, and then its letters.
 #[derive(Clone, Copy, Debug, Drop, PartialEq, Eq, Error)]
