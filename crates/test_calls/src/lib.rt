@@ -166,7 +166,10 @@ impl Ended {
     pub fn file(&self, pick: u32) -> Result<Vec<u8>, OutOfMemory>
         requires { pick < 4 }
     {
-        self.desk.crash(pick)
+        match self.desk.crash(pick) {
+            Ok(file) => Ok(file),
+            Err(_) => Err(AllocError),
+        }
     }
 
     /// Whether the call is done, and that text was told.
