@@ -110,7 +110,7 @@ fn answer_of<R: Threads + Wait + Sync, G: Gate + Sync>(
     tierra(rt, alloc, words, source, desk, gate)
 }
 
-fn ended(alloc: Global, status: Status, desk: MemDesk) -> Result<Ended, OutOfMemory> {
+fn what_ended(alloc: Global, status: Status, desk: MemDesk) -> Result<Ended, OutOfMemory> {
     if desk.starved() > 0 {
         return Err(AllocError);
     }
@@ -137,7 +137,7 @@ pub fn call_beside<R: Threads + Wait + Sync, G: Gate + Sync>(
     let mut source = source_of(alloc, source, given)?;
     let mut desk = desk_of(alloc, given)?;
     let status = answer_of(rt, alloc, &words, &mut source, &mut desk, gate);
-    ended(alloc, status, desk)
+    what_ended(alloc, status, desk)
 }
 
 /// Makes a call.
