@@ -4,19 +4,32 @@ use crate::looks::{bytes_of, run_of, told_again};
 use std::alloc::Global;
 use std::test::Fail;
 use test_soups::{ancestor_file, setup_of};
-use tierra_model::{Effort, Now, OutOfMemory, Setup};
+use tierra_model::{Creature, Effort, Now, OutOfMemory, Setup};
 use world_core::World;
+
+fn counts_line(alloc: Global, world: &World) -> Result<String, OutOfMemory> {
+    let (births, deaths) = (world.births(), world.deaths());
+    let (living, filled) = (world.yard_len(), world.filled());
+    format!(in alloc; "births {births} deaths {deaths} living {living} filled {filled}")
+}
+
+fn front_line(alloc: Global, it: &Creature) -> Result<String, OutOfMemory> {
+    format!(in alloc; "front {} ip {} ax {} bx {}", it.id, it.ip, it.ax, it.bx)
+}
+
+fn rest_line(alloc: Global, it: &Creature) -> Result<String, OutOfMemory> {
+    format!(in alloc;
+        "cx {} dx {} flag {} errors {}",
+        it.cx, it.dx, it.flag, it.errors
+    )
+}
 
 /// The counts of a world, and the creature at the front of the slicer queue.
 fn line_of(alloc: Global, world: &World) -> Result<String, OutOfMemory> {
-    let (births, deaths) = (world.births(), world.deaths());
-    let (living, filled) = (world.yard_len(), world.filled());
-    let front = *world.front();
-    format!(in alloc;
-        "births {births} deaths {deaths} living {living} filled {filled} \
-         front {} ip {} ax {} bx {} cx {} dx {} flag {} errors {}",
-        front.id, front.ip, front.ax, front.bx, front.cx, front.dx, front.flag, front.errors
-    )
+    let counts = counts_line(alloc, world)?;
+    let front = front_line(alloc, world.front())?;
+    let rest = rest_line(alloc, world.front())?;
+    format!(in alloc; "{counts} {front} {rest}")
 }
 
 /// The sum over all cells of the cell's number, counted from 1, times what it holds.
@@ -43,10 +56,25 @@ fn efforts_of(world: &World) -> (Option<Effort>, Option<Effort>) {
     (world.first(0), world.second(0))
 }
 
+/// The line of the world after so many quanta, and what the first and the second daughter cost.
+fn bred(
+    alloc: Global,
+    setup: &Setup,
+    quanta: u16,
+) -> Result<(String, (Option<Effort>, Option<Effort>)), OutOfMemory> {
+    let world = run_of(alloc, setup, quanta)?;
+    Ok((line_of(alloc, &world)?, efforts_of(&world)))
+}
+
+/// The soup of the ancestor, with the usual settings.
+fn ancestor_setup(alloc: Global) -> Result<Setup, Fail> {
+    setup_of(alloc, &ancestor_file(alloc, "")?)
+}
+
 #[test]
 fn the_ancestor_breeds(rt: HostRuntime) -> Result<(), Fail> {
     let alloc = rt.alloc();
-    let setup = setup_of(alloc, &ancestor_file(alloc, "")?)?;
+    let setup = ancestor_setup(alloc)?;
     let first = Some(Effort {
         ran: 839,
         moved: 80,
@@ -83,9 +111,9 @@ fn the_ancestor_breeds(rt: HostRuntime) -> Result<(), Fail> {
         ),
     ];
     for (quanta, line, efforts) in rows {
-        let world = run_of(alloc, &setup, quanta)?;
-        assert_eq!(rt; line_of(alloc, &world)?.as_str(), line);
-        assert_eq!(rt; efforts_of(&world), efforts);
+        let (told, spent) = bred(alloc, &setup, quanta)?;
+        assert_eq!(rt; told.as_str(), line);
+        assert!(rt; spent == efforts, "{quanta}");
     }
     Ok(())
 }
@@ -368,9 +396,13 @@ fn is_restored_after(alloc: Global, setup: &Setup, quanta: u16) -> Result<bool, 
     Ok(told_again(alloc, setup, &bytes)? == Some(true))
 }
 
+fn mutating_setup(alloc: Global) -> Result<Setup, Fail> {
+    setup_of(alloc, &ancestor_file(alloc, MUTATING)?)
+}
+
 #[test]
 fn worlds_along_a_run_are_restored(rt: HostRuntime) -> Result<(), Fail> {
-    let setup = setup_of(rt.alloc(), &ancestor_file(rt.alloc(), MUTATING)?)?;
+    let setup = mutating_setup(rt.alloc())?;
     for part in 0..200 {
         assert!(rt; is_restored_after(rt.alloc(), &setup, 3 * part)?, "{part}");
     }
