@@ -151,8 +151,8 @@ def soup_file(source):
 def read_file(source):
     """Gives what a soup file says.
 
-    The program's reader of TOML has bounds of its own, on how deep a document goes and on the exponent of a number, takes a
-    byte order mark, and knows the escapes of TOML 1.1."""
+    The program's reader of TOML has bounds of its own, on how deep a document goes and on the exponent of a number, and takes a
+    byte order mark. It knows TOML 1.1: further escapes, and inline tables that go over lines or end with a comma."""
     if sum(source.count(sign) for sign in (b".", b"[", b"{")) > 60 or re.search(rb"[eE][+-]?[0-9_]{3}|\\[ex]", source):
         return ""
     try:
@@ -160,7 +160,7 @@ def read_file(source):
         if wide(document):
             return "soup file is not TOML"
     except ValueError:
-        return "soup file is not TOML"
+        return "" if re.search(rb"\{[^{}]*\n|,\s*\}", source) else "soup file is not TOML"
     if unknown := document.keys() - KEYS.keys() - {"creature"}:
         return f"unknown key {shown(least(unknown))}"
     for key, row in KEYS.items():

@@ -8,6 +8,7 @@ import random
 import hostile_rules as rules
 
 MOST = rules.MOST_BYTES
+MOST_WORDS = 1500000  # Linux starts a program with two million bytes of words at most
 ODD = [b"\x00", b"\x7f", b"\x80", b"\xff", b"\xc2\x85", b"\xe2\x80\xa8", b"\xef\xbb\xbf", b"\xc3\xa9", b"\xf0\x9f\x90\x9b", b"\n", b"\r",
        b"\r\n", b"\t", b"\x0b", b"\x0c", b" ", b'"', b"'", b'"""', b"'''", b"\\", b"\\u0000", b"\\n", b"\\U0010ffff", b"\\ud800", b"=", b".",
        b",", b"[", b"]", b"[[", b"]]", b"{", b"}", b"#", b";", b"-", b"+", b"_", b"e", b"0", b"9", b"0x", b"nan", b"inf", b"true"]
@@ -211,7 +212,7 @@ def words(dice):
         if dice.randrange(5) == 0:
             parts.insert(dice.randrange(len(parts) + 1), "--")
     if dice.randrange(200) == 0:
-        parts *= 500
+        parts *= min(500, MOST_WORDS // (len("".join(parts)) + 1))
     parts = [part.encode() for part in parts]
     if dice.randrange(20) == 0:
         parts.insert(dice.randrange(len(parts) + 1), dice.choice((b"\xff", b"--quanta=\xff", b"--\xff", b"grow\xff", b"\xc3")))
