@@ -84,3 +84,9 @@ returns-clause-told g c =
     let before = (g.D.Desk.state c.args.desk.now).told in
     let now = (g.D.Desk.state c.keep_and_tell.new.desk).told in
     record { all = moved g at (λ w q. Appended before (held_line q) now) c.in_ok-shelf.ensures.told.all; partly = tt }
+
+pub returns-in_err-shelf-clause-counts : goal.returns-in_err-shelf-clause-counts
+returns-in_err-shelf-clause-counts g c =
+    let stop = err_from_is_err_and c.from_residual-in_err-shelf.result c.from_residual-in_err-shelf.ensures.1 in
+    let is : c.from_residual-in_err-shelf.result ≡ Err c.in_err-shelf.field-0.0 = cc (stop.1, stop.2) in
+    rw is c.in_err-shelf.ensures.counts
