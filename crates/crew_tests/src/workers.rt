@@ -5,10 +5,12 @@ ghost use Rattle.std.specs.Prelude.{◌≡◌, ◌≤◌, IfOk};
 use commit_book::{Book, Claim};
 use crew::{Gate, Hand, Next, Ran, run_crew};
 use std::alloc::Global;
+use std::process::Abort;
 use std::snapshot::Snapshot;
+use std::sync::Wait;
 use std::sync::atomic::{AtomicBool, AtomicU64, Ordering};
 use std::test::Fail;
-use std::thread::yield_now;
+use std::thread::{Threads, yield_now};
 use test_soups::{TWO, setup_of};
 use tierra_model::{Groups, How, Setup};
 
@@ -191,30 +193,50 @@ fn one_worker_runs_each_quantum(rt: HostRuntime) -> Result<(), Fail> {
 
 #[test]
 fn each_group_is_handed_over(rt: HostRuntime) -> Result<(), Fail> {
-    for workers in [1, 2, 3, 64] {
-        let (book, mut hand) = begin(rt.alloc(), 2 * workers, SAVED, false)?;
-        let ran = run_crew(&rt, rt.alloc(), book, workers, &CountGate::new(), &mut hand);
-        let Ran::Ended(book) = ran else {
-            panic!(rt; "not ended")
-        };
-        let groups = book.groups_from(rt.alloc(), 0)?;
-        assert_eq!(rt; (groups.items.len(), hand.done), (1, 1));
-    }
+    hand_over_all(&rt, rt.alloc(), 1)?;
+    hand_over_all(&rt, rt.alloc(), 2)?;
+    hand_over_all(&rt, rt.alloc(), 3)?;
+    hand_over_all(&rt, rt.alloc(), 64)
+}
+
+fn hand_over_all<R: Threads + Wait + Sync + Abort>(
+    rt: &R,
+    alloc: Global,
+    workers: u32,
+) -> Result<(), Fail>
+    requires { (1 ≤ workers) × (workers ≤ 64) }
+{
+    let (book, mut hand) = begin(alloc, 2 * workers, SAVED, false)?;
+    let ran = run_crew(rt, alloc, book, workers, &CountGate::new(), &mut hand);
+    let Ran::Ended(book) = ran else {
+        panic!(rt; "not ended")
+    };
+    let groups = book.groups_from(alloc, 0)?;
+    assert_eq!(rt; (groups.items.len(), hand.done), (1, 1));
     Ok(())
 }
 
 #[test]
 fn a_hand_that_halts_stops_the_book(rt: HostRuntime) -> Result<(), Fail> {
-    for workers in [1, 3] {
-        let (book, mut hand) = begin(rt.alloc(), 2 * workers, SAVED, true)?;
-        let ran = run_crew(&rt, rt.alloc(), book, workers, &CountGate::new(), &mut hand);
-        let Ran::Halted(mut book) = ran else {
-            panic!(rt; "not halted")
-        };
-        assert_eq!(rt; (hand.done, hand.halts), (0, 1));
-        // The first groups were handed over before any quantum was committed.
-        assert!(rt; workers > 1 || book.committed() == 0);
-        assert!(rt; matches!(book.claim(rt.alloc()), Claim::Stopped));
-    }
+    halt_at_once(&rt, rt.alloc(), 1)?;
+    halt_at_once(&rt, rt.alloc(), 3)
+}
+
+fn halt_at_once<R: Threads + Wait + Sync + Abort>(
+    rt: &R,
+    alloc: Global,
+    workers: u32,
+) -> Result<(), Fail>
+    requires { (1 ≤ workers) × (workers ≤ 64) }
+{
+    let (book, mut hand) = begin(alloc, 2 * workers, SAVED, true)?;
+    let ran = run_crew(rt, alloc, book, workers, &CountGate::new(), &mut hand);
+    let Ran::Halted(mut book) = ran else {
+        panic!(rt; "not halted")
+    };
+    assert_eq!(rt; (hand.done, hand.halts), (0, 1));
+    // The first groups were handed over before any quantum was committed.
+    assert!(rt; workers > 1 || book.committed() == 0);
+    assert!(rt; matches!(book.claim(alloc), Claim::Stopped));
     Ok(())
 }

@@ -48,6 +48,7 @@ impl<'a> PageReader<'a> {
     }
 
     /// The instruction's code in a cell.
+    #[inline]
     pub(crate) fn get(&mut self, at: u32) -> u8
         requires { at < length self.old }
         ensures value { result ≡ slice_index self.old at }
@@ -61,7 +62,10 @@ impl<'a> PageReader<'a> {
         self.turn_to(at)
     }
 
-    // The code in a cell of another page, which is then at hand.
+    // The code in a cell of another page, which is then at hand. It stands apart so that a look into the page at hand is
+    // inlined.
+    #[cold]
+    #[inline(never)]
     fn turn_to(&mut self, at: u32) -> u8
         requires { at < length self.old }
         ensures value { result ≡ slice_index self.old at }
