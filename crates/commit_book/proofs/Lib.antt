@@ -1,3 +1,5 @@
+pub mod Working
+pub mod Recording
 pub mod GivingLemmas
 pub mod Stashes
 pub mod Beginning

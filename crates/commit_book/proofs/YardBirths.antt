@@ -1,17 +1,15 @@
 -- The yard after a birth.
-use Rattle.std.proofs.Common.{◌≡◌, ℕ, ◌+◌, ◌<◌, ◌≤◌, true, List, [], ◌∷◌, ◌++◌, refl, sym, ◌∙◌, ap, subst, arith, inl, inr}
+use Rattle.std.proofs.Common.{◌≡◌, ℕ, ◌+◌, ◌<◌, true, List, [], ◌∷◌, ◌++◌, refl, sym, ◌∙◌, ap, subst, arith, inl, inr}
 use Rattle.std.specs.Prelude.{None, Option, Some, if◌then◌else◌, map, slice_range, unwrap_or, ◌==◌}
-use Rattle.std.proofs.lemmas.Bool.Decides.{eqb_tells, nat_tests}
+use Rattle.std.proofs.lemmas.Bool.Decides.{eqb_tells}
 use Rattle.std.proofs.lemmas.List.{map-append}
 use Rattle.tierra_model.specs.declared.creatures.Block.{Block}
 use Rattle.tierra_model.specs.declared.creatures.Creature.{Creature}
 use Rattle.tierra_model.specs.declared.creatures.Standing.{Standing}
-use Rattle.tierra_model.specs.declared.events.Event.{Event}
 use Rattle.tierra_model.specs.declared.events.Event.TheVariants as event
-use Rattle.tierra_model.specs.Counting.{times_in}
 use Rattle.tierra_model.specs.Events.{apply_event, record_after, with_birth}
 use Rattle.tierra_model.specs.Individuals.{genotypes_at_birth, with_individual}
-use Rattle.tierra_model.specs.Living.{ids_of, newborn, nobody, one_of, with_record}
+use Rattle.tierra_model.specs.Living.{newborn, nobody, one_of, with_record}
 use Rattle.tierra_model.specs.World.{Genotype, World, front}
 use Rattle.tierra_model.specs.Yard.{standing, with_standing, yard}
 use Rattle.tierra_model.proofs.Commutes.{HasFront, front-id}

@@ -42,7 +42,7 @@ fn counted_advance<L: Ledger>(
 }
 
 // Hands over all groups that are left, of a book that has committed all.
-fn hand_rest<H: Hand>(alloc: Global, book: Book, hand: &mut H) -> Ran
+pub(crate) fn hand_rest<H: Hand>(alloc: Global, book: Book, hand: &mut H) -> Ran
     requires all { book.committed ≡ book.quanta }
     requires hand { IsReady (book.setup, book.quanta) (H.setup hand.old) (H.quanta hand.old)
         (H.done hand.old) (H.halts hand.old) (H.can_put hand.old) }

@@ -1,14 +1,14 @@
 //! Worker 1, who hands over new groups between its turns.
 
 ghost use Rattle.std.specs.Prelude.{◌≡◌, ◌+◌, ◌<◌, ◌≤◌, ◌^◌, IfSome, length};
+ghost use Rattle.tierra_model.specs.declared.limits.TheConstants.{MOST_QUANTA};
 ghost use Rattle.crew.specs.Hands.{AreNext, HaltsBy, run_bank};
 ghost use Rattle.crew.specs.Works.{HasWorked};
 
-use crate::gate::Gate;
 use crate::hand::{Hand, Next};
 use crate::handing::{groups_since, hand_over};
 use crate::turns::{finding_of, serve};
-use commit_book::Book;
+use commit_book::{Book, Gate};
 use quantum_run::{Finding, Job, Workspace};
 use std::alloc::Global;
 use std::sync::Wait;
@@ -38,7 +38,7 @@ fn lead_turn<R: Wait>(
     requires lock { seat.lock ≡ lock.now }
     requires room { seat.turns < 2 ^ 40 }
     ensures worked { HasWorked 1 seat result.seat }
-    ensures few { result.quanta ≤ 4000000 }
+    ensures few { result.quanta ≤ MOST_QUANTA }
     ensures groups { IfSome result.groups (AreNext lock.now.opening.setup.0 lock.now.opening.setup.1 done) }
 {
     let caller = seat.caller();

@@ -4,8 +4,8 @@
 //! workers have ended, it finishes the run by itself.
 #![tactic(auto)]
 
+mod alone;
 mod finish;
-mod gate;
 mod hand;
 mod handing;
 mod lead;
@@ -13,7 +13,7 @@ mod runs;
 mod turns;
 mod worker;
 
-pub use gate::{FreeGate, Gate};
+pub use commit_book::{FreeGate, Gate};
 pub use hand::{Hand, Next};
 pub use runs::{Ran, run_crew, seat_for};
 pub use worker::work;

@@ -1,6 +1,7 @@
 //! What a worker does with the book while it has it.
 
 ghost use Rattle.std.specs.Prelude.{◌≡◌, ◌+◌, ◌<◌, ◌≤◌, ◌^◌, IfOk, drop};
+ghost use Rattle.tierra_model.specs.declared.limits.TheConstants.{MOST_QUANTA};
 ghost use Rattle.tierra_model.specs.Genebank.{bank};
 ghost use Rattle.commit_book.specs.Giving.{MayGive};
 ghost use Rattle.crew.specs.Hands.{AreNext, run_bank};
@@ -103,7 +104,7 @@ pub(crate) fn turn<R: Wait>(
     requires room { seat.turns < 2 ^ 40 }
     ensures worked { HasWorked 1 seat result.seat }
     ensures quanta { result.quanta ≡ lock.now.opening.setup.1 }
-    ensures few { result.quanta ≤ 4000000 }
+    ensures few { result.quanta ≤ MOST_QUANTA }
 {
     let caller = seat.caller();
     let (turn, mut book) = lock.take(rt, seat);

@@ -4,9 +4,8 @@ ghost use Rattle.std.specs.Prelude.{◌≡◌, ◌+◌, ◌*◌, ◌<◌, ◌≤
 ghost use Rattle.turn_lock.specs.Seats.{own_of};
 ghost use Rattle.crew.specs.Works.{HasWorked};
 
-use crate::gate::Gate;
 use crate::turns::{Turned, finding_of, turn};
-use commit_book::Book;
+use commit_book::{Book, Gate};
 use quantum_run::{Job, Workspace};
 use std::alloc::Global;
 use std::sync::Wait;

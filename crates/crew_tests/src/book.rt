@@ -31,7 +31,7 @@ fn counted<R: Abort, L: Ledger>(rt: &R, alloc: Global, blank: Blank) -> Result<(
     assert!(rt; matches!(book.claim(alloc), Claim::Full));
     assert_eq!(rt; book.advance(alloc, 1, &mut steps), Advanced::Committed);
     assert_eq!(rt; (book.committed(), book.quanta()), (1, 2));
-    assert_eq!(rt; book.history().items.len(), 1);
+    assert_eq!(rt; book.history().len(), 1);
     assert_eq!(rt; book.world().births(), 0);
     book.stop();
     assert!(rt; matches!(book.claim(alloc), Claim::Stopped));

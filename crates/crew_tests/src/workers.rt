@@ -181,13 +181,12 @@ fn one_worker_runs_each_quantum(rt: HostRuntime) -> Result<(), Fail> {
     let calls = [&gate.befores, &gate.afters].map(|calls| calls.load(Ordering::SeqCst));
     assert_eq!(rt; calls, [200, 200]);
     assert_eq!(rt; (book.committed(), hand.done), (200, 0));
-    let entries = &book.history().items;
-    assert_eq!(rt; entries.len(), 200);
-    assert!(rt;
-        entries
-            .iter()
-            .all(|entry| entry.by == 1 && entry.how == How::Fresh)
-    );
+    let history = book.history();
+    assert_eq!(rt; history.len(), 200);
+    for place in 0..history.len() {
+        let entry = history.at(place);
+        assert_eq!(rt; (entry.by, entry.how), (1, How::Fresh));
+    }
     Ok(())
 }
 

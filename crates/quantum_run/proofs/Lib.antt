@@ -1,4 +1,5 @@
 pub mod Marked
+pub mod Forgetting
 pub mod YardMoves
 pub mod Shadowing
 pub mod Yarding

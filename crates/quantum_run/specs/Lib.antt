@@ -6,4 +6,5 @@ pub mod Shelves
 pub mod Jobs
 pub mod Found
 pub mod OnScene
+pub mod Outcomes
 pub mod ReadyLaws

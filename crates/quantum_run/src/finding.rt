@@ -2,10 +2,8 @@
 
 ghost use Rattle.std.specs.Prelude.{◌≡◌, IfOk};
 
-use crate::job::{Expected, Job};
-use crate::scratch::Room;
+use crate::scratch::{Room, Sheet};
 use read_sets::Reads;
-use std::alloc::Global;
 use std::marker::Model;
 use tierra_model::{Creature, EventList, OutOfMemory, Settings};
 
@@ -14,39 +12,7 @@ use tierra_model::{Creature, EventList, OutOfMemory, Settings};
 #[derive(Drop)]
 pub struct Finding {
     quantum: u64,
-    records: Box<Records>,
-    reads: Reads,
-    events: EventList,
-    // memory for a job, which no contract sees
-    expected: Option<Box<Expected>>,
-}
-
-/// What is large in a finding. It is boxed, since a finding goes through many hands.
-#[derive(Clone, Copy, Drop)]
-pub(crate) struct Records {
-    settings: Settings,
-    before: Creature,
-    after: Creature,
-}
-
-impl Records {
-    /// Memory for the records of a job: the one that is there, or new memory.
-    pub(crate) fn place(
-        alloc: Global,
-        job: &Job,
-        there: Option<Box<Records>>,
-    ) -> Result<Box<Records>, OutOfMemory> {
-        if let Some(place) = there {
-            return Ok(place);
-        }
-        let records = Records {
-            settings: *job.settings(),
-            before: *job.front(),
-            after: *job.front(),
-        };
-        let place = Box::new(alloc, records)?;
-        Ok(place)
-    }
+    sheet: Box<Sheet>,
 }
 
 impl Model for Finding {
@@ -56,92 +22,60 @@ impl Model for Finding {
     ghost Value = { findings.Finding };
 
     ghost view = { λ f. record {
-      settings = f.records.value.settings;
+      settings = f.sheet.value.settings;
       quantum = f.quantum;
-      before = f.records.value.before;
-      reads = f.reads.reads;
-      events = f.events;
-      after = f.records.value.after;
+      before = f.sheet.value.before;
+      reads = f.sheet.value.reads.reads;
+      events = f.sheet.value.events;
+      after = f.sheet.value.after;
     } };
 
     ghost invariant = { λ f. Kept (record {
-      settings = f.records.value.settings;
+      settings = f.sheet.value.settings;
       quantum = f.quantum;
-      before = f.records.value.before;
-      reads = f.reads.reads;
-      events = f.events;
-      after = f.records.value.after;
+      before = f.sheet.value.before;
+      reads = f.sheet.value.reads.reads;
+      events = f.sheet.value.events;
+      after = f.sheet.value.after;
     }) };
 }
 
 ghost use Rattle.quantum_run.specs.Found.{Kept};
 
 impl Finding {
-    pub(crate) fn of(
-        settings: Settings,
-        quantum: u64,
-        before: Creature,
-        reads: Reads,
-        events: EventList,
-        after: Creature,
-        place: Box<Records>,
-    ) -> Finding
+    pub(crate) fn of(quantum: u64, sheet: Box<Sheet>) -> Finding
         requires { Kept (record {
-          settings = settings;
+          settings = sheet.value.settings;
           quantum = quantum;
-          before = before;
-          reads = reads.reads;
-          events = events;
-          after = after;
+          before = sheet.value.before;
+          reads = sheet.value.reads.reads;
+          events = sheet.value.events;
+          after = sheet.value.after;
         }) }
         ensures { result ≡ record {
-          settings = settings;
+          settings = sheet.value.settings;
           quantum = quantum;
-          before = before;
-          reads = reads.reads;
-          events = events;
-          after = after;
+          before = sheet.value.before;
+          reads = sheet.value.reads.reads;
+          events = sheet.value.events;
+          after = sheet.value.after;
         } }
     {
-        let mut records = place;
-        *records = Records {
-            settings,
-            before,
-            after,
-        };
-        Finding {
-            quantum,
-            records,
-            reads,
-            events,
-            expected: None,
-        }
+        Finding { quantum, sheet }
     }
 
     // Its memory. The lists that it shares are let go.
     pub(crate) fn into_room(self) -> Room {
-        let mut reads = self.reads;
-        reads.clear();
-        Room {
-            reads,
-            events: self.events.items,
-            records: Some(self.records),
-            expected: self.expected,
-        }
-    }
-
-    // Keeps the memory of the job that it came of, for a later job.
-    pub(crate) fn keep_memory_of(&mut self, job: Job)
-        ensures { self.new ≡ self.old }
-    {
-        self.expected = Some(job.into_expected());
+        let mut sheet = self.sheet;
+        sheet.reads.clear();
+        Room { sheet: Some(sheet) }
     }
 
     /// The settings of the world in which it ran.
     pub fn settings(&self) -> &Settings
         ensures { result.now ≡ self.now.settings }
     {
-        &self.records.settings
+        &self.sheet.settings
     }
 
     /// The number of the quantum.
@@ -156,7 +90,7 @@ impl Finding {
     pub fn before(&self) -> &Creature
         ensures { result.now ≡ self.now.before }
     {
-        &self.records.before
+        &self.sheet.before
     }
 
     /// What the quantum read.
@@ -164,37 +98,40 @@ impl Finding {
         ensures is { result.now.reads ≡ self.now.reads }
         ensures kept { Kept self.now }
     {
-        &self.reads
+        &self.sheet.reads
     }
 
     /// What happened in it, in order.
     pub fn events(&self) -> &EventList
         ensures { result.now ≡ self.now.events }
     {
-        &self.events
+        &self.sheet.events
     }
 
     /// The record after it.
     pub fn after(&self) -> &Creature
         ensures { result.now ≡ self.now.after }
     {
-        &self.records.after
+        &self.sheet.after
     }
 
     /// Another finding of the same.
     pub fn copy(&self) -> Result<Finding, OutOfMemory>
         ensures { IfOk result (λ f. f ≡ self.now) }
     {
-        let events = EventList {
-            items: self.events.items.clone()?,
+        let events = &self.sheet.events.items;
+        let sheet = Sheet {
+            settings: self.sheet.settings,
+            before: self.sheet.before,
+            after: self.sheet.after,
+            reads: self.sheet.reads.copy()?,
+            events: EventList {
+                items: events.clone()?,
+            },
         };
-        let records = Box::new(*self.events.items.allocator(), *self.records)?;
         Ok(Finding {
             quantum: self.quantum,
-            records,
-            reads: self.reads.copy()?,
-            events,
-            expected: None,
+            sheet: Box::new(*events.allocator(), sheet)?,
         })
     }
 }

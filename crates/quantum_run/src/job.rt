@@ -5,7 +5,7 @@ ghost use Rattle.std.specs.Arc.{arc_value};
 ghost use Rattle.tierra_model.specs.Scene.{Scene};
 ghost use Rattle.quantum_run.specs.Jobs.{OfSoundWorld};
 
-use crate::scratch::Room;
+use crate::scratch::{Lists, Room, Sheet};
 use soup_cells::Version;
 use std::alloc::Global;
 use std::marker::Model;
@@ -17,19 +17,11 @@ use tierra_model::{Block, Creature, FreeList, OutOfMemory, Settings, Standing, Y
 #[derive(Drop)]
 pub struct Job {
     quantum: u64,
-    expected: Box<Expected>,
+    // the settings and the creature expected, with memory for the finding, which no contract sees
+    sheet: Box<Sheet>,
     cells: Version,
     free: Arc<FreeList>,
     yard: Arc<Yard>,
-    // memory for its finding, which no contract sees
-    room: Option<Room>,
-}
-
-/// What is large in a job. It is boxed, since a job goes through many hands.
-#[derive(Clone, Copy, Drop)]
-pub(crate) struct Expected {
-    settings: Settings,
-    front: Creature,
 }
 
 impl Model for Job {
@@ -41,9 +33,9 @@ impl Model for Job {
     ghost Value = { Scene };
 
     ghost view = { λ j. record {
-      settings = j.expected.value.settings;
+      settings = j.sheet.value.settings;
       quanta = j.quantum - 1;
-      front = j.expected.value.front;
+      front = j.sheet.value.before;
       soup = j.cells;
       free = arc_value j.free;
       yard = arc_value j.yard;
@@ -51,9 +43,9 @@ impl Model for Job {
 
     ghost invariant = { λ j. (1 ≤ j.quantum) × (length (arc_value j.yard) < 2 ^ 30)
         × OfSoundWorld (record {
-          settings = j.expected.value.settings;
+          settings = j.sheet.value.settings;
           quanta = j.quantum - 1;
-          front = j.expected.value.front;
+          front = j.sheet.value.before;
           soup = j.cells;
           free = arc_value j.free;
           yard = arc_value j.yard;
@@ -91,39 +83,39 @@ impl Job {
           yard = arc_value yard;
         }) }
     {
-        let mut room = room;
-        let expected = Expected {
-            settings: *settings,
-            front: *front,
-        };
-        let expected = boxed(alloc, expected, room.expected.take())?;
+        let sheet = room.into_sheet(alloc, settings, front)?;
         Ok(Job {
             quantum,
-            expected,
+            sheet,
             cells,
             free,
             yard,
-            room: Some(room),
         })
     }
 
-    // Its own memory. What it shares is let go.
-    pub(crate) fn into_expected(self) -> Box<Expected> {
-        self.expected
-    }
-
-    // Gives up the memory for its finding.
-    pub(crate) fn take_room(&mut self) -> Option<Room>
+    // Gives up the memory for its lists.
+    pub(crate) fn take_lists(&mut self) -> Lists
         ensures { self.new ≡ self.old }
     {
-        self.room.take()
+        self.sheet.take_lists()
+    }
+
+    // Its own memory, and the lists that it shares.
+    pub(crate) fn into_parts(self) -> (Box<Sheet>, Arc<FreeList>, Arc<Yard>)
+        ensures settings { result.0.value.settings ≡ self.settings }
+        ensures before { result.0.value.before ≡ self.front }
+        ensures free { arc_value result.1 ≡ self.free }
+        ensures yard { arc_value result.2 ≡ self.yard }
+        ensures sound { OfSoundWorld self }
+    {
+        (self.sheet, self.free, self.yard)
     }
 
     pub(crate) fn settings(&self) -> &Settings
         ensures settings { result.now ≡ self.now.settings }
         ensures sound { OfSoundWorld self.now }
     {
-        &self.expected.settings
+        &self.sheet.settings
     }
 
     pub(crate) fn cells(&self) -> &Version
@@ -154,8 +146,7 @@ impl Job {
     }
 
     pub(crate) fn share_yard(&self) -> Result<Arc<Yard>, OutOfMemory>
-        ensures yard { IfOk result (λ a. arc_value a ≡ self.now.yard) }
-        ensures few { IfOk result (λ a. length self.now.yard < 2 ^ 30) }
+        ensures { IfOk result (λ a. arc_value a ≡ self.now.yard) }
     {
         Arc::try_clone(&self.yard)
     }
@@ -171,22 +162,6 @@ impl Job {
     pub fn front(&self) -> &Creature
         ensures { result.now ≡ self.now.front }
     {
-        &self.expected.front
+        &self.sheet.before
     }
-}
-
-// The value in a box: the one that is there, or a new one.
-fn boxed(
-    alloc: Global,
-    expected: Expected,
-    there: Option<Box<Expected>>,
-) -> Result<Box<Expected>, OutOfMemory>
-    ensures { IfOk result (λ b. b.value ≡ expected) }
-{
-    if let Some(mut place) = there {
-        *place = expected;
-        return Ok(place);
-    }
-    let place = Box::new(alloc, expected)?;
-    Ok(place)
 }

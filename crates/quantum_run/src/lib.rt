@@ -6,6 +6,7 @@ mod finding;
 mod free_cells;
 mod job;
 mod on_scene;
+mod outcome;
 mod page_reader;
 mod scratch;
 mod standings;

@@ -1,24 +1,22 @@
 //! A quantum that runs in a scene.
 
 ghost use Rattle.std.specs.Prelude.{◌≡◌, ◌<◌, ◌^◌, vec_capacity, vec_len};
+ghost use Rattle.tierra_model.specs.declared.limits.TheConstants.{COUNT_END, MOST_SLICE};
 ghost use Rattle.quantum_run.specs.OnScene.{events_after, yard_after};
 
-use crate::cells::{Cells, Mark};
-use crate::finding::{Finding, Records};
+use crate::cells::{Cells, Mark, forget};
 use crate::free_cells::FreeCells;
 use crate::job::Job;
-use crate::scratch::{Copies, Room};
+use crate::outcome::Outcome;
+use crate::scratch::{Copies, Lists};
 use crate::standings::Standings;
 use crate::yard::first_other;
 use mutation_streams::Draws;
 use quantum_core::Ground;
 use std::marker::Model;
-use std::sync::Arc;
 use std::sync::ledger::Ledger;
 use step_count::Steps;
-use tierra_model::{
-    Act, Block, Creature, Event, EventList, FreeList, OutOfMemory, Settings, Standing, View, Yard,
-};
+use tierra_model::{Act, Block, Creature, Event, OutOfMemory, Settings, Standing, View};
 
 /// The scene of a job, in which its quantum runs, and what the quantum notes.
 #[derive(Drop)]
@@ -70,26 +68,24 @@ impl<'a> Model for OnScene<'a> {
 }
 
 ghost use Rattle.std.specs.Prelude.{◌≤◌, ◌*◌, ◌+◌, IfOk, length};
-ghost use Rattle.std.specs.Arc.{arc_value};
 ghost use Rattle.tierra_model.proofs.Each.{Each};
-ghost use Rattle.quantum_run.specs.Marks.{Before, NotAfter};
-ghost use Rattle.tierra_model.specs.Findings.{finding_of};
+ghost use Rattle.quantum_run.specs.Marks.{IsUnknown};
 ghost use Rattle.tierra_model.specs.SceneRun.{run_in_scene, run_start};
 ghost use Rattle.quantum_run.specs.OnScene.{SceneReady};
+ghost use Rattle.quantum_run.specs.Outcomes.{IsOutcome};
 
 impl<'a> OnScene<'a> {
-    /// The scene before its quantum, with all memory for so many instructions. The marks are those of turns before.
+    /// The scene before its quantum, with all memory for so many instructions, and with marks by which no cell is known.
     pub(crate) fn new(
         job: &'a Job,
         slice: u32,
         marks: Vec<Mark>,
-        turn: u32,
         copies: Copies,
-        room: Room,
+        lists: Lists,
     ) -> Result<OnScene<'a>, OutOfMemory>
-        requires few { slice ≤ 10000 }
+        requires few { slice ≤ MOST_SLICE }
         requires size { length marks.items ≡ job.now.settings.soup_size }
-        requires fresh { Each (Before turn) marks.items }
+        requires fresh { Each IsUnknown marks.items }
         ensures run { IfOk result (λ s. s.run ≡ run_start job.now) }
         ensures ready { IfOk result (λ s. SceneReady s (4 * slice + 1)) }
     {
@@ -99,19 +95,12 @@ impl<'a> OnScene<'a> {
         let more = 4 * slice + 1;
         let yard = Standings::begin(job.standings(), copies.yard, more)?;
         let free = FreeCells::begin(job.free(), size, copies.free, 2 * living + more)?;
-        let room = room.emptied(size, living + more)?;
+        let lists = lists.emptied(size, living + more)?;
         Ok(OnScene {
             job,
             front,
-            cells: Cells::begin(
-                job.cells(),
-                marks,
-                turn,
-                room.reads,
-                front.own,
-                front.daughter,
-            ),
-            events: room.events,
+            cells: Cells::begin(job.cells(), marks, lists.reads, front.own, front.daughter),
+            events: lists.events,
             free,
             yard,
             free_noted: false,
@@ -120,52 +109,28 @@ impl<'a> OnScene<'a> {
         })
     }
 
-    /// What the quantum found, once it has run; the marks, none of a turn after the one that is given; and the room of the
-    /// copies.
-    pub(crate) fn into_finding(
-        self,
-        free: Arc<FreeList>,
-        yard: Arc<Yard>,
-        place: Box<Records>,
-    ) -> (Finding, Vec<Mark>, u32, Copies)
-        requires free { arc_value free ≡ self.run.start.free }
-        requires yard { arc_value yard ≡ self.run.start.yard }
-        requires living { length self.run.start.yard < 2 ^ 30 }
+    /// What the quantum leaves, once it has run; the marks, by which no cell is known any more; and the room of the copies.
+    pub(crate) fn into_outcome(self) -> (Outcome, Vec<Mark>, Copies)
         requires ready { SceneReady self 0 }
         requires run { self.run ≡ run_in_scene self.run.start }
-        ensures finding { result.0 ≡ finding_of self.entry.run.start }
-        ensures marks { Each (NotAfter result.2) result.1.items }
+        ensures outcome { IsOutcome self.entry.run.start result.0 }
+        ensures marks { Each IsUnknown result.1.items }
     {
-        let (mut reads, marks, turn) = self.cells.into_parts();
-        reads.note_lists(
-            some_if(self.free_noted, free),
-            some_if(self.yard_noted, yard),
-        );
-        let events = EventList { items: self.events };
-        let finding = Finding::of(
-            *self.job.settings(),
-            self.job.quantum(),
-            *self.job.front(),
+        let (reads, mut marks) = self.cells.into_parts();
+        forget(&mut marks, reads.cells(), &self.events);
+        let outcome = Outcome {
             reads,
-            events,
-            self.front,
-            place,
-        );
+            events: self.events,
+            after: self.front,
+            free_noted: self.free_noted,
+            yard_noted: self.yard_noted,
+        };
         let copies = Copies {
             free: self.free.into_own(),
             yard: self.yard.into_own(),
         };
-        (finding, marks, turn, copies)
+        (outcome, marks, copies)
     }
-}
-
-ghost use Rattle.tierra_model.specs.Reads.{some_if};
-
-// The value, where it is wanted.
-fn some_if<T: Drop>(is: bool, value: T) -> Option<T>
-    ensures { result ≡ some_if is value }
-{
-    if is { Some(value) } else { None }
 }
 
 impl<'a> Ground for OnScene<'a> {
@@ -314,7 +279,7 @@ ghost use Rattle.tierra_model.specs.Yard.{stand_in};
 
 // The number under which newborn `k` of the quantum stands in the yard.
 fn number_of_newborn(k: u64) -> u64
-    requires { k < 2 ^ 60 }
+    requires { k < COUNT_END }
     ensures { result ≡ stand_in k }
 {
     (1 << 63) + k

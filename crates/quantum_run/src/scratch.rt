@@ -1,14 +1,13 @@
-//! Room that quanta use one after another.
+//! Memory that quanta use one after another.
 
 ghost use Rattle.std.specs.Prelude.{◌≡◌, ◌≤◌, [], IfOk, vec_capacity, vec_len};
 ghost use Rattle.read_sets.specs.Noted.{nothing};
 
-use crate::finding::Records;
-use crate::job::Expected;
 use block_alloc::Blocks;
 use read_sets::Reads;
 use std::alloc::Global;
-use tierra_model::{Event, OutOfMemory, Standing};
+use std::mem;
+use tierra_model::{Creature, Event, EventList, OutOfMemory, Settings, Standing};
 
 /// Room for the copies of a job's free runs and yard, which a quantum makes where it changes them.
 #[derive(Drop)]
@@ -26,27 +25,23 @@ impl Copies {
     }
 }
 
-/// The memory of a job and of its finding. It goes out with the job, and comes back once the finding is done with.
+/// The lists that a quantum makes: what it read, and its events.
 #[derive(Drop)]
-pub struct Room {
+pub(crate) struct Lists {
     pub(crate) reads: Reads,
     pub(crate) events: Vec<Event>,
-    pub(crate) records: Option<Box<Records>>,
-    pub(crate) expected: Option<Box<Expected>>,
 }
 
-impl Room {
-    pub(crate) fn new(alloc: Global) -> Room {
-        Room {
+impl Lists {
+    pub(crate) fn new(alloc: Global) -> Lists {
+        Lists {
             reads: Reads::empty(alloc),
             events: Vec::new(alloc),
-            records: None,
-            expected: None,
         }
     }
 
     /// Nothing is noted, and there is room for so many cells and events.
-    pub(crate) fn emptied(self, cells: u32, events: u32) -> Result<Room, OutOfMemory>
+    pub(crate) fn emptied(self, cells: u32, events: u32) -> Result<Lists, OutOfMemory>
         ensures reads { IfOk result (λ n. n.reads.reads ≡ nothing) }
         ensures cells { IfOk result (λ n. cells ≤ n.reads.spare) }
         ensures none { IfOk result (λ n. n.events.items ≡ []) }
@@ -59,11 +54,71 @@ impl Room {
         reads.reserve(cells)?;
         happened.clear();
         happened.reserve(events as usize)?;
-        Ok(Room {
+        Ok(Lists {
             reads,
             events: happened,
-            records: self.records,
-            expected: self.expected,
         })
+    }
+}
+
+/// What is large in a job and in its finding: the settings, the record of the creature before the quantum and after it, and
+/// the lists. A job has the first two, and memory for the others. A sheet is boxed, since jobs and findings go through many
+/// hands.
+#[derive(Drop)]
+pub(crate) struct Sheet {
+    pub(crate) settings: Settings,
+    pub(crate) before: Creature,
+    pub(crate) after: Creature,
+    pub(crate) reads: Reads,
+    pub(crate) events: EventList,
+}
+
+impl Sheet {
+    // Gives up its lists.
+    pub(crate) fn take_lists(&mut self) -> Lists
+        ensures settings { self.new.settings ≡ self.old.settings }
+        ensures before { self.new.before ≡ self.old.before }
+    {
+        let alloc = *self.events.items.allocator();
+        Lists {
+            reads: mem::replace(&mut self.reads, Reads::empty(alloc)),
+            events: mem::replace(&mut self.events.items, Vec::new(alloc)),
+        }
+    }
+}
+
+/// The memory of a job and its finding, where some is kept. It goes out with the job, and comes back once the finding is
+/// done with.
+#[derive(Drop)]
+pub struct Room {
+    pub(crate) sheet: Option<Box<Sheet>>,
+}
+
+impl Room {
+    /// A sheet with the settings, and the record of the creature that is to run.
+    pub(crate) fn into_sheet(
+        self,
+        alloc: Global,
+        settings: &Settings,
+        before: &Creature,
+    ) -> Result<Box<Sheet>, OutOfMemory>
+        ensures settings { IfOk result (λ s. s.value.settings ≡ settings.now) }
+        ensures before { IfOk result (λ s. s.value.before ≡ before.now) }
+    {
+        if let Some(mut sheet) = self.sheet {
+            sheet.settings = *settings;
+            sheet.before = *before;
+            return Ok(sheet);
+        }
+        let Lists { reads, events } = Lists::new(alloc);
+        let sheet = Sheet {
+            settings: *settings,
+            before: *before,
+            after: *before,
+            reads,
+            events: EventList { items: events },
+        };
+        let sheet = Box::new(alloc, sheet)?;
+        Ok(sheet)
     }
 }

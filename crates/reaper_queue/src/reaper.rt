@@ -2,6 +2,7 @@
 
 ghost use Rattle.std.specs.Prelude.{◌≡◌, ◌==◌, ◌+◌, ◌^◌, ◌<◌, ◌≤◌, [], ◌∷◌, ◌++◌, IfOk, IsTrue, OnOk, OnErr, Some, filter, find, length, not, position, slice_get, slice_index, swap};
 ghost use Rattle.std.specs.VecDeque.{deque_len, deque_capacity};
+ghost use Rattle.tierra_model.specs.declared.limits.TheConstants.{COUNT_END};
 ghost use Rattle.tierra_model.specs.Counting.{times_in};
 ghost use Rattle.tierra_model.specs.Queue.{error_move, good_move};
 ghost use Rattle.reaper_queue.specs.Queue.{ids_of, is_of, errors_of, errors_in, with_error};
@@ -93,7 +94,7 @@ impl Reaper {
     /// one has more errors.
     pub fn error(&mut self, id: u64)
         requires present { 0 < times_in (ids_of self.old.entries) id }
-        requires small { errors_in id self.old.entries < 2 ^ 60 }
+        requires small { errors_in id self.old.entries < COUNT_END }
         ensures entries { self.new.entries ≡ error_move (is_of id) errors_of (with_error id self.old.entries) }
         ensures room { self.new.spare ≡ self.old.spare }
     {

@@ -1,5 +1,5 @@
 -- The book is advanced to its end.
-use Rattle.std.proofs.Common.{◌≡◌, ℕ, zero, suc, ◌+◌, ◌-◌, ◌<◌, ◌≤◌, refl, ap, arith}
+use Rattle.std.proofs.Common.{◌≡◌, ℕ, zero, suc, ◌+◌, arith}
 use Rattle.commit_book.specs.Books.{BookFields, after_commits}
 
 pub commits-count : (by k : ℕ) (b : BookFields) → (after_commits by k b).committed ≡ b.committed + k

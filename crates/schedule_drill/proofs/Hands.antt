@@ -1,12 +1,12 @@
 -- What the hands hold goes on fitting the book.
 use Rattle.std.proofs.Common.{◌≡◌, ℕ, zero, suc, ◌+◌, ◌-◌, ◌<◌, ◌≤◌, List, refl, sym, ◌∙◌, ap, subst, arith, length-set}
-use Rattle.std.specs.Prelude.{All, None, Option, Some, length, slice_index_or, slice_set, ◌⊎◌}
+use Rattle.std.specs.Prelude.{All, None, Option, Some, slice_index_or, slice_set}
 use Rattle.std.proofs.Math.ListN.{get_or}
 use Rattle.std.proofs.lemmas.List.{set-get_or}
 use Rattle.std.proofs.lemmas.List.Elements.{All-from_get_or, All-get_or, All-set}
 use Rattle.tierra_model.specs.Findings.{Finding, finding_of}
 use Rattle.tierra_model.specs.Scene.{scene_of}
-use Rattle.commit_book.specs.Books.{BookFields, after_commits, with_finding, without_next, world_of}
+use Rattle.commit_book.specs.Books.{BookFields, after_commits, with_finding, world_of}
 use Rattle.commit_book.specs.Claims.{HasJob, next_job}
 use Rattle.commit_book.specs.Offers.{StopsShort, window_end}
 use Rattle.schedule_drill.specs.declared.tally.Answered.{Answered}

@@ -1,5 +1,5 @@
 -- The hands at a book.
-use Rattle.std.specs.Prelude.{All, List, None, Option, Some, false, length, ℕ, ◌+◌, ◌≡◌, ◌≤◌}
+use Rattle.std.specs.Prelude.{All, None, Option, Some, false, length, ℕ, ◌+◌, ◌≡◌, ◌≤◌}
 use Rattle.tierra_model.specs.Findings.{Finding}
 use Rattle.commit_book.specs.Books.{BookFields}
 use Rattle.commit_book.specs.Offers.{window_end}

@@ -1,7 +1,6 @@
 -- What comes of a schedule: a fold over its moves.
 use Rattle.std.specs.Prelude.{Bool, List, None, Option, Some, [], count_by, false, if◌then◌else◌, is_some, nat_le, nat_lt, replicate, slice_index_or, slice_set, true, ℕ, ◌+◌, ◌-◌, ◌==◌, ◌∷◌}
 use Rattle.tierra_model.specs.declared.history.Entry.{Entry}
-use Rattle.tierra_model.specs.declared.history.How.{How}
 use Rattle.tierra_model.specs.declared.history.How.TheVariants as how
 use Rattle.tierra_model.specs.Findings.{Finding, finding_of}
 use Rattle.tierra_model.specs.Setups.{SetupFields}

@@ -10,7 +10,7 @@ ghost use Rattle.schedule_drill.specs.declared.moves.Move.TheVariants as Move;
 ghost use Rattle.schedule_drill.specs.Moves.{IsOfHand};
 
 use crate::moves::{Move, MoveList};
-use crate::tally::{Answered, Tally, fresh_of, missing_of, stale_of};
+use crate::tally::{Answered, Tally, ways_of};
 use commit_book::{Advanced, Book, Claim, Offered};
 use quantum_run::{Finding, Job, Workspace};
 use std::alloc::{AllocError, Global};
@@ -323,11 +323,11 @@ fn advance_all<L: Ledger>(
 fn tally(book: &Book, answered: Answered) -> Tally
     ensures { result ≡ tally_of (record { book = book.now; hands = []; answered = answered }) }
 {
-    let history = &book.history().items;
+    let ways = ways_of(book.history());
     Tally {
-        fresh: fresh_of(history),
-        missing: missing_of(history),
-        stale: stale_of(history),
+        fresh: ways.fresh,
+        missing: ways.missing,
+        stale: ways.stale,
         kept: answered.kept,
         twice: answered.twice,
         late: answered.late,

@@ -1,9 +1,10 @@
 //! What is counted of a schedule.
 
-ghost use Rattle.std.specs.Prelude.{◌≡◌, ◌≤◌, count_by, length};
+ghost use Rattle.std.specs.Prelude.{◌≡◌, count_by};
 ghost use Rattle.schedule_drill.specs.Drill.{is_fresh, is_missing, is_stale};
 
-use tierra_model::{Entry, How};
+use commit_book::History;
+use tierra_model::How;
 
 /// How many quanta were committed each way, and how many answers of each kind the moves had.
 #[derive(Clone, Copy, Debug, Drop, PartialEq, Eq)]
@@ -29,32 +30,30 @@ pub struct Answered {
     pub idle: u64,
 }
 
-/// How many quanta were committed by a finding that agreed.
-pub(crate) fn fresh_of(history: &[Entry]) -> u64
-    ensures { result ≡ count_by is_fresh history.now }
-{
-    history
-        .iter()
-        .filter(|entry| matches!(entry.how, How::Fresh))
-        .count() as u64
+/// How many quanta were committed by a finding that agreed, with none, and in place of a stale one.
+#[derive(Clone, Copy, Drop)]
+pub(crate) struct Ways {
+    pub(crate) fresh: u64,
+    pub(crate) missing: u64,
+    pub(crate) stale: u64,
 }
 
-/// How many had no finding.
-pub(crate) fn missing_of(history: &[Entry]) -> u64
-    ensures { result ≡ count_by is_missing history.now }
+pub(crate) fn ways_of(history: &History) -> Ways
+    ensures fresh { result.fresh ≡ count_by is_fresh history.now }
+    ensures missing { result.missing ≡ count_by is_missing history.now }
+    ensures stale { result.stale ≡ count_by is_stale history.now }
 {
-    history
-        .iter()
-        .filter(|entry| matches!(entry.how, How::Missing))
-        .count() as u64
-}
-
-/// How many had one that was stale.
-pub(crate) fn stale_of(history: &[Entry]) -> u64
-    ensures { result ≡ count_by is_stale history.now }
-{
-    history
-        .iter()
-        .filter(|entry| matches!(entry.how, How::Stale(_)))
-        .count() as u64
+    let mut ways = Ways {
+        fresh: 0,
+        missing: 0,
+        stale: 0,
+    };
+    for place in 0..history.len() {
+        match history.at(place).how {
+            How::Fresh => ways.fresh += 1,
+            How::Missing => ways.missing += 1,
+            How::Stale(_) => ways.stale += 1,
+        }
+    }
+    ways
 }

@@ -1,6 +1,7 @@
 //! A run of one creature at a time, in place.
 #![tactic(auto)]
 
+mod in_place;
 mod mal;
 mod slice;
 mod sole;
@@ -10,6 +11,7 @@ ghost use Rattle.tierra_model.specs.declared.limits.TheConstants.{MOST_QUANTA};
 ghost use Rattle.tierra_model.specs.Serial.{serial};
 ghost use Rattle.serial_slicer.specs.Onward.{after};
 
+pub use crate::in_place::InPlace;
 use crate::slice::run_quantum;
 use crate::sole::Sole;
 use std::alloc::Global;

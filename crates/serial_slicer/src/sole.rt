@@ -133,6 +133,13 @@ impl Sole {
         self.running.quanta()
     }
 
+    /// How many genotypes were saved.
+    pub(crate) fn kept(&self) -> u64
+        ensures { result ≡ length self.now.world.saved }
+    {
+        self.running.kept()
+    }
+
     /// The creature whose turn it is.
     pub(crate) fn front(&self) -> &Creature
         requires { IsRunning self.now.world }

@@ -1,5 +1,6 @@
 -- A world in the middle of a turn.
-use Rattle.std.specs.Prelude.{All, Bool, List, length, true, ℕ, ◌+◌, ◌<◌, ◌==◌, ◌^◌, ◌≡◌, ◌≤◌}
+use Rattle.std.specs.Prelude.{All, Bool, List, length, true, ℕ, ◌+◌, ◌<◌, ◌==◌, ◌≡◌, ◌≤◌}
+use Rattle.tierra_model.specs.declared.limits.TheConstants.{COUNT_END}
 use Rattle.tierra_model.specs.declared.creatures.Creature.{Creature}
 use Rattle.tierra_model.specs.Counting.{one_if, sum_of, times_in}
 use Rattle.tierra_model.specs.Ranges.{IsCode}
@@ -47,10 +48,10 @@ pub record IsRunning (w : World) : Type 0 where
   pub placed : All (IsPlaced w.settings.soup_size) w.living
   pub apart : (p : ℕ) → owners w.living p ≤ 1
   pub genotype : All (λ c. c.genotype < length w.genotypes) w.living
-  pub small : All (λ c. (c.errors < 2 ^ 60) × (c.bred < 2 ^ 60)) w.living
+  pub small : All (λ c. (c.errors < COUNT_END) × (c.bred < COUNT_END)) w.living
   pub written : All (λ g. IsCode g.code) w.genotypes
-  pub totals : All (λ g. g.total < 2 ^ 60) w.genotypes
+  pub totals : All (λ g. g.total < COUNT_END) w.genotypes
   pub births : w.births < w.next_birth
   pub living_and_dead : length w.living + w.deaths + 1 ≡ w.next_birth
-  pub next_birth : w.next_birth < 2 ^ 60
-  pub quanta : w.quanta < 2 ^ 60
+  pub next_birth : w.next_birth < COUNT_END
+  pub quanta : w.quanta < COUNT_END

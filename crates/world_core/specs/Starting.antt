@@ -1,5 +1,6 @@
 -- How a world is filled at the start.
-use Rattle.std.specs.Prelude.{All, List, None, false, length, true, ℕ, ◌+◌, ◌<◌, ◌^◌, ◌≡◌, ◌≤◌}
+use Rattle.std.specs.Prelude.{All, List, None, false, length, true, ℕ, ◌+◌, ◌<◌, ◌≡◌, ◌≤◌}
+use Rattle.tierra_model.specs.declared.limits.TheConstants.{COUNT_END}
 use Rattle.tierra_model.specs.Counting.{times_in}
 use Rattle.tierra_model.specs.Ranges.{IsCode}
 use Rattle.tierra_model.specs.Blocks.{is_in}
@@ -24,6 +25,6 @@ pub record CanInoculate (w : World) (at : ℕ) (code : List ℕ) : Type 0 where
   pub reaper : (id : ℕ) → times_in w.reaper id ≡ times_in (ids_of w.living) id
   pub fresh : (id : ℕ) → w.next_birth ≤ id → times_in (ids_of w.living) id ≡ 0
   pub some : 1 ≤ w.next_birth
-  pub few : w.next_birth < 2 ^ 60
+  pub few : w.next_birth < COUNT_END
   pub living : length w.living < w.next_birth
-  pub totals : All (λ g. g.total < 2 ^ 60) w.genotypes
+  pub totals : All (λ g. g.total < COUNT_END) w.genotypes

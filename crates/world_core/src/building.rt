@@ -1,6 +1,7 @@
 //! A world put together from what its bytes tell.
 
-ghost use Rattle.std.specs.Prelude.{◌≡◌, ◌≤◌, ◌<◌, ◌^◌, ℕ, All, IfOk, length, nat_lt, not};
+ghost use Rattle.std.specs.Prelude.{◌≡◌, ◌≤◌, ◌<◌, ℕ, All, IfOk, length, nat_lt, not};
+ghost use Rattle.tierra_model.specs.declared.limits.TheConstants.{COUNT_END};
 ghost use Rattle.tierra_model.specs.Counting.{times_in};
 ghost use Rattle.tierra_model.specs.FreeList.{runs_of};
 ghost use Rattle.tierra_model.specs.Living.{ids_of, one_of};
@@ -151,7 +152,7 @@ fn space_without(alloc: Global, size: u32, blocks: &[Block]) -> Result<Blocks, O
 }
 
 fn census_from(alloc: Global, living: &[Creature]) -> Result<Census, OutOfMemory>
-    requires { length living.now < 2 ^ 60 }
+    requires { length living.now < COUNT_END }
     ensures { IfOk result (λ c. (g : ℕ) → living_of c g ≡ number_with living.now g) }
 {
     let mut census = Census::new(alloc);

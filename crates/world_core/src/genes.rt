@@ -1,6 +1,7 @@
 //! The genotypes, and what is saved of them.
 
-ghost use Rattle.std.specs.Prelude.{◌≡◌, ◌+◌, ◌<◌, ◌≤◌, ◌^◌, [], All, OnOk, length};
+ghost use Rattle.std.specs.Prelude.{◌≡◌, ◌+◌, ◌<◌, ◌≤◌, [], All, OnOk, length};
+ghost use Rattle.tierra_model.specs.declared.limits.TheConstants.{COUNT_END};
 ghost use Rattle.tierra_model.specs.Individuals.{savings_after, with_effort_of, with_individual};
 ghost use Rattle.tierra_model.specs.Ranges.{IsCode};
 ghost use Rattle.world_state.specs.Savings.{savings_of};
@@ -103,7 +104,7 @@ impl Genes {
     ) -> u64
         requires room { 0 < self.old.spare }
         requires code { IsCode code }
-        requires counts { All (λ g. g.total < 2 ^ 60) self.old.genotypes }
+        requires counts { All (λ g. g.total < COUNT_END) self.old.genotypes }
         ensures genotypes { self.new.genotypes ≡ (with_individual self.old.genotypes code parent q).0 }
         ensures number { result ≡ (with_individual self.old.genotypes code parent q).1 }
         ensures saved { self.new.saved

@@ -1,6 +1,7 @@
 //! The living and their two queues.
 
-ghost use Rattle.std.specs.Prelude.{◌≡◌, ◌==◌, ◌+◌, ◌<◌, ◌≤◌, ◌^◌, ℕ, [], ◌∷◌, ◌++◌, All, OnOk, filter, find, length, not, option_copied, slice_get, slice_index};
+ghost use Rattle.std.specs.Prelude.{◌≡◌, ◌==◌, ◌+◌, ◌<◌, ◌≤◌, ℕ, [], ◌∷◌, ◌++◌, All, OnOk, filter, find, length, not, option_copied, slice_get, slice_index};
+ghost use Rattle.tierra_model.specs.declared.limits.TheConstants.{COUNT_END};
 ghost use Rattle.tierra_model.specs.Counting.{times_in};
 ghost use Rattle.tierra_model.specs.Living.{ids_of, one_of, with_record, without};
 ghost use Rattle.tierra_model.specs.Queue.{error_move, good_move, place_of_first_other, rotation};
@@ -176,7 +177,7 @@ impl Population {
         requires here { 0 < times_in (ids_of self.old.living) creature.id }
         requires queue { 0 < times_in self.old.reaper creature.id }
         requires errors { creature.errors ≡ (one_of self.old.living creature.id).errors + 1 }
-        requires small { creature.errors ≤ 2 ^ 60 }
+        requires small { creature.errors ≤ COUNT_END }
         ensures living { self.new.living ≡ with_record creature self.old.living }
         ensures slicer { self.new.slicer ≡ self.old.slicer }
         ensures reaper { self.new.reaper

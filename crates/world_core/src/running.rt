@@ -1,6 +1,7 @@
 //! A world in the middle of a turn, changed by one event after another.
 
 ghost use Rattle.std.specs.Prelude.{All, ◌≡◌, ◌+◌, ◌<◌, ◌≤◌, ◌^◌, ℕ, IfOk, IfSome, IsSome, OnOk, None, false, find, length, option_copied, option_map, slice_get, slice_index, slice_index_or, slice_range, true, ◌==◌, ◌||◌};
+ghost use Rattle.tierra_model.specs.declared.limits.TheConstants.{COUNT_END, MOST_SIZE};
 ghost use Rattle.tierra_model.specs.declared.events.Event.TheVariants as event;
 ghost use Rattle.tierra_model.specs.Blocks.{is_in, is_in_daughter, no_block};
 ghost use Rattle.tierra_model.specs.Events.{apply_event, turn_end as turn_end_of};
@@ -318,7 +319,7 @@ impl Running {
     /// Where a daughter block of the size is to go, if there is room.
     pub fn room_for(&self, size: u32) -> Option<u32>
         requires one { 1 ≤ size }
-        requires few { size ≤ 20000 }
+        requires few { size ≤ MOST_SIZE }
         ensures { result ≡ room_for self.now.world.settings (λ p. is_owned self.now.world.living p) size }
     {
         let filled = u64::from(self.blocks.filled());
@@ -547,7 +548,7 @@ impl Running {
     /// The creature goes to the back of the slicer queue, and the quantum is counted.
     pub fn turn_end(&mut self)
         requires line { 0 < length self.old.world.slicer }
-        requires count { self.old.world.quanta < 2 ^ 60 }
+        requires count { self.old.world.quanta < COUNT_END }
         ensures world { self.new.world ≡ turn_end_of self.old.world }
         ensures ready { KeepsReady self.old self.new }
         ensures births { self.new.births ≡ self.old.births }

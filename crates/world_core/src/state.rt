@@ -2,6 +2,7 @@
 
 ghost use Rattle.std.specs.Prelude.{◌≡◌, ◌++◌, ◌<◌, ◌^◌, All, IfOk, IfSome, OnOk, length, map};
 ghost use Rattle.std.specs.List.{flat_map};
+ghost use Rattle.tierra_model.specs.declared.limits.TheConstants.{COUNT_END};
 ghost use Rattle.tierra_model.specs.Living.{one_of};
 ghost use Rattle.tierra_model.specs.Ranges.{IsCode};
 ghost use Rattle.tierra_model.specs.Sound.{IsSound, ParentsBelow};
@@ -215,7 +216,7 @@ fn push_genotypes(out: &mut Vec<u8>, running: &Running) -> Result<(), OutOfMemor
 fn push_each_genotype(out: &mut Vec<u8>, genotypes: &Genotypes) -> Result<(), OutOfMemory>
     requires written { All (λ g. IsCode g.code) genotypes.now.genotypes }
     requires parents { ParentsBelow 0 genotypes.now.genotypes }
-    requires few { length genotypes.now.genotypes < 2 ^ 60 }
+    requires few { length genotypes.now.genotypes < COUNT_END }
     ensures { OnOk result (out.new.items ≡ out.old.items ++ flat_map genotype_bytes genotypes.now.genotypes) }
 {
     for number in 0..genotypes.len() {
@@ -228,7 +229,7 @@ fn push_each_genotype(out: &mut Vec<u8>, genotypes: &Genotypes) -> Result<(), Ou
 fn push_genotype(out: &mut Vec<u8>, genotypes: &Genotypes, number: u64) -> Result<(), OutOfMemory>
     requires known { number < length genotypes.now.genotypes }
     requires short { length (genotype_at genotypes.now.genotypes number).code < 2 ^ 32 }
-    requires parent { IfSome (genotype_at genotypes.now.genotypes number).parent (λ p. p < 2 ^ 60) }
+    requires parent { IfSome (genotype_at genotypes.now.genotypes number).parent (λ p. p < COUNT_END) }
     ensures { OnOk result (out.new.items
         ≡ out.old.items ++ genotype_bytes (genotype_at genotypes.now.genotypes number)) }
 {
@@ -250,7 +251,7 @@ fn push_code(out: &mut Vec<u8>, code: &Code) -> Result<(), OutOfMemory>
 
 #[tactic(auto, unfolding(world_state::specs::StateBytes::parent_bytes))]
 fn push_parent(out: &mut Vec<u8>, parent: Option<u64>) -> Result<(), OutOfMemory>
-    requires { IfSome parent (λ p. p < 2 ^ 60) }
+    requires { IfSome parent (λ p. p < COUNT_END) }
     ensures { OnOk result (out.new.items ≡ out.old.items ++ parent_bytes parent) }
 {
     match parent {

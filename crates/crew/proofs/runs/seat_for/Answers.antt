@@ -1,4 +1,4 @@
-use Rattle.std.proofs.Common.{arith, ◌+◌, Result, Ok, Err, OnOk, IfOk}
+use Rattle.std.proofs.Common.{arith, ◌+◌}
 use Rattle.std.proofs.lemmas.Result.{IfOk-weaker, on_ok_weaker}
 use Rattle.crew.specs.Works.{IsFirst, IsOther}
 use Rattle.crew.proofs.Speaking.{first_next, other_new}

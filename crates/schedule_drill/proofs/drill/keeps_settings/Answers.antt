@@ -1,4 +1,4 @@
-use Rattle.std.proofs.Common.{◌≡◌, ◌≤◌, ◌∙◌, subst, arith}
+use Rattle.std.proofs.Common.{◌∙◌, subst, arith}
 use Rattle.schedule_drill.proofs.drill.keeps_settings.Goals as goal
 use Rattle.tierra_model.specs.Setups.{IsSetup}
 use Rattle.tierra_model.proofs.StartIsSound.{serial_is_sound}

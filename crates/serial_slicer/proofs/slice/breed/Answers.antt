@@ -1,9 +1,9 @@
-use Rattle.std.proofs.Common.{◌≡◌, ◌∙◌, ◌≤◌, ap, subst, sym}
+use Rattle.std.proofs.Common.{◌∙◌, ◌≤◌, ap, subst, sym}
 use Rattle.std.specs.Prelude.{IsSome}
 use Rattle.tierra_model.specs.declared.creatures.Creature.{Creature}
 use Rattle.tierra_model.specs.declared.events.Act.TheVariants as act
 use Rattle.tierra_model.specs.Quantum.{perform, world_machine}
-use Rattle.tierra_model.specs.World.{World, put}
+use Rattle.tierra_model.specs.World.{World}
 use Rattle.world_core.specs.Running.{IsRunning}
 use Rattle.serial_slicer.specs.Turns.{InQuantum}
 use Rattle.serial_slicer.proofs.Acts.{put_front, taken_out}

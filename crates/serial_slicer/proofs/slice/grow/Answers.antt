@@ -1,6 +1,6 @@
-use Rattle.std.proofs.Common.{◌≡◌, ◌∙◌, ap, subst, sym}
+use Rattle.std.proofs.Common.{◌∙◌, ap, subst, sym}
 use Rattle.tierra_model.specs.Quantum.{mal, world_machine}
-use Rattle.tierra_model.specs.World.{World, put}
+use Rattle.tierra_model.specs.World.{World}
 use Rattle.world_core.specs.Running.{IsRunning}
 use Rattle.serial_slicer.specs.Turns.{InQuantum}
 use Rattle.serial_slicer.proofs.Acts.{taken_out}

@@ -26,8 +26,8 @@ begin-requires-3 c =
     record {
       size = c.requires.size ∙ sym size;
       fresh = c.requires.fresh;
-      room = omega (arith, size, ap (λ (t : Settings). t.soup_size) c.settings.ensures.settings, c.in_ok-room.ensures.cells);
-      none = c.in_ok-room.ensures.reads;
+      room = omega (arith, size, ap (λ (t : Settings). t.soup_size) c.settings.ensures.settings, c.in_ok-lists.ensures.cells);
+      none = c.in_ok-lists.ensures.reads;
     }
 
 pub returns-clause-run : goal.returns-clause-run
@@ -38,7 +38,7 @@ returns-clause-run c =
     c.begin-3.ensures ∙ (λ j. fresh_cells (c.cells.ensures.cells j) (front j).own (front j).daughter) in
     let free = c.in_ok-free.ensures.free ∙ c.free.ensures in
     let yard = c.in_ok-yard.ensures.items ∙ c.standings-2.ensures.yard in
-    (λ j. run_from scene (front j) (cells j).now (free j) (yard j) (cells j).reads.cells false false (c.in_ok-room.ensures.none j) 0)
+    (λ j. run_from scene (front j) (cells j).now (free j) (yard j) (cells j).reads.cells false false (c.in_ok-lists.ensures.none j) 0)
 
 pub returns-clause-ready : goal.returns-clause-ready
 returns-clause-ready c =
@@ -53,15 +53,15 @@ returns-clause-ready c =
     let living : length c.standings.result.now ≡ length scene.yard = ap length c.standings.ensures.yard in
     let few = c.standings.ensures.few in
     let slice = c.requires.few in
-    let er : ℕ = c.in_ok-room.room.events.cap - c.in_ok-room.room.events.len in
+    let er : ℕ = c.in_ok-lists.lists.events.cap - c.in_ok-lists.lists.events.len in
     let yr : ℕ = c.in_ok-yard.yard.room in
     let br : ℕ = c.in_ok-free.free.spare in
     let m : ℕ = 4 * c.args.slice + 1 in
-    let events : length scene.yard + m ≤ er = omega (arith, living, few, slice, c.in_ok-room.ensures.len, c.in_ok-room.ensures.events) in
+    let events : length scene.yard + m ≤ er = omega (arith, living, few, slice, c.in_ok-lists.ensures.len, c.in_ok-lists.ensures.events) in
     let standings : m ≤ yr = omega (arith, slice, c.in_ok-yard.ensures.room) in
     let blocks : 2 * length scene.yard + m ≤ br = omega (arith, living, few, slice, c.in_ok-free.ensures.room) in
     let end : fields_from scene scene.front (fresh_cells scene.soup scene.front.own scene.front.daughter) (let z : Space = record { size = c.in_ok-free.free.size; free = scene.free; spare = br } in z) scene.yard false false [] 0 er yr
-    ≡ fields_from scene c.front-front.result.now c.begin-3.result c.in_ok-free.free c.in_ok-yard.yard.items false false c.in_ok-room.room.events.items 0 er yr =
-    (λ j. fields_from scene (sym front j) (sym cells j) (let z : Space = record { size = c.in_ok-free.free.size; free = sym free j; spare = br } in z) (sym yard j) false false (sym c.in_ok-room.ensures.none j) 0 er yr) in
+    ≡ fields_from scene c.front-front.result.now c.begin-3.result c.in_ok-free.free c.in_ok-yard.yard.items false false c.in_ok-lists.lists.events.items 0 er yr =
+    (λ j. fields_from scene (sym front j) (sym cells j) (let z : Space = record { size = c.in_ok-free.free.size; free = sym free j; spare = br } in z) (sym yard j) false false (sym c.in_ok-lists.ensures.none j) 0 er yr) in
     subst (λ (v : SceneFields). SceneReady v m) end
     (starts scene c.settings.ensures.sound (replicate (length scene.soup) false) c.in_ok-free.free.size er yr br m size refl (omega (arith, slice)) few events standings blocks)

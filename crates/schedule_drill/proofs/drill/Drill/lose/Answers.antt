@@ -1,4 +1,4 @@
-use Rattle.std.proofs.Common.{◌≡◌, ◌-◌, sym, subst}
+use Rattle.std.proofs.Common.{◌-◌, sym, subst}
 use Rattle.schedule_drill.proofs.drill.Drill.lose.Goals as goal
 use Rattle.schedule_drill.specs.AtBook.{FitsBook}
 use Rattle.schedule_drill.proofs.Hands.{at_with_held}

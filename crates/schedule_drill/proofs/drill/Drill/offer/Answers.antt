@@ -1,5 +1,4 @@
-use Rattle.std.proofs.Common.{rules, ◌≡◌, sym, subst}
-use Rattle.commit_book.specs.Books.{BookFields}
+use Rattle.std.proofs.Common.{sym, subst}
 use Rattle.schedule_drill.proofs.drill.Drill.offer.Goals as goal
 use Rattle.schedule_drill.proofs.Hands.{GoesOn, at_later_book, offer-goes_on, short-goes_on}
 

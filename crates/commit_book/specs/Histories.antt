@@ -1,0 +1,34 @@
+-- How a history is kept: a line for each quantum, and the differences apart.
+use Rattle.std.specs.Prelude.{List, [], length, slice_index_or, ℕ, ◌+◌, ◌<◌, ◌≡◌, ◌∷◌}
+use Rattle.tierra_model.proofs.Each.{Each}
+use Rattle.tierra_model.specs.declared.history.Entry.{Entry}
+use Rattle.tierra_model.specs.declared.history.How.{How}
+use Rattle.tierra_model.specs.declared.history.How.TheVariants as how
+use Rattle.tierra_model.specs.declared.history.Stale.{Stale}
+use Rattle.tierra_model.specs.declared.history.Stale.TheVariants as stale
+use Rattle.commit_book.specs.declared.history.Line.{Line}
+use Rattle.commit_book.specs.declared.history.Way.{Way}
+use Rattle.commit_book.specs.declared.history.Way.TheVariants as way
+
+abbrev pub how_by : List Stale → Way → How
+how_by differences way.Fresh = how.Fresh
+how_by differences way.Missing = how.Missing
+how_by differences (way.Stale place) = how.Stale (slice_index_or differences place stale.Body)
+
+-- a difference that is spoken of is one of so many
+abbrev pub IsThere : ℕ → Way → Type 0
+IsThere n way.Fresh = Unit {0}
+IsThere n way.Missing = Unit {0}
+IsThere n (way.Stale place) = place < n
+
+-- the entries of these lines, after n others
+abbrev pub entries_of : List Stale → ℕ → List Line → List Entry
+entries_of differences n [] = []
+entries_of differences n (l ∷ ls) =
+    record { quantum = n + 1; creature = l.creature; by = l.by; how = how_by differences l.way } ∷ entries_of differences (n + 1) ls
+
+-- lines that speak of the differences before make the same entries with those after
+abbrev pub KeepsLines : List Stale → List Stale → Type 0
+KeepsLines before after =
+    (ls : List Line) → Each (λ l. IsThere (length before) l.way) ls
+    → (entries_of after 0 ls ≡ entries_of before 0 ls) × Each (λ l. IsThere (length after) l.way) ls

@@ -1,0 +1,51 @@
+//! A run with one worker.
+
+ghost use Rattle.std.specs.Prelude.{◌≡◌, ◌<◌, ◌≤◌, IfOk, length, true};
+ghost use Rattle.crew.specs.Hands.{IsReady, run_bank};
+ghost use Rattle.crew.specs.Rans.{HaltsAsIn, IfEnded, IfHalted};
+
+use crate::finish::hand_rest;
+use crate::hand::{Hand, Next};
+use crate::handing::{hand_over, new_groups};
+use crate::runs::Ran;
+use commit_book::{Book, Gate};
+use std::alloc::Global;
+use tierra_model::OutOfMemory;
+
+/// Runs a book to its end as one worker alone, for whom the world stays as it is while a job runs: so each quantum is run in
+/// the world itself. The groups are handed over as they come.
+pub(crate) fn run_alone<G: Gate, H: Hand>(alloc: Global, book: Book, gate: &G, hand: &mut H) -> Ran
+    requires hand { IsReady (book.setup, book.quanta) (H.setup hand.old) (H.quanta hand.old)
+        (H.done hand.old) (H.halts hand.old) (H.can_put hand.old) }
+    ensures ended { IfEnded result (λ b. (b.setup ≡ book.setup) × (b.quanta ≡ book.quanta) × (b.committed ≡ b.quanta)) }
+    ensures all_put { IfEnded result (λ b. H.done hand.new ≡ length (run_bank book.setup book.quanta)) }
+    ensures halted { IfHalted result (λ b. (b.setup ≡ book.setup) × (b.quanta ≡ book.quanta) × (b.stopped ≡ true)) }
+    ensures halts { HaltsAsIn result (H.halts hand.new) }
+    ensures setup { H.setup hand.new ≡ H.setup hand.old }
+    ensures quanta { H.quanta hand.new ≡ H.quanta hand.old }
+    ensures later { H.goes_to hand.old hand.new }
+{
+    let mut book = book;
+    'savings: while book.committed() < book.quanta() {
+        let groups = new_groups(alloc, &book, hand.done()).ok();
+        if hand_over(hand, groups) == Next::Halt {
+            book.stop();
+            return Ran::Halted(book);
+        }
+        let Ok(worked) = work_on(alloc, book, gate) else {
+            return Ran::OutOfMemory;
+        };
+        book = worked;
+    }
+    hand_rest(alloc, book, hand)
+}
+
+// Runs and commits quanta, one at least where some are left, until one saves a genotype or all are committed.
+fn work_on<G: Gate>(alloc: Global, book: Book, gate: &G) -> Result<Book, OutOfMemory>
+    ensures run { IfOk result (λ b. (b.setup ≡ book.setup) × (b.quanta ≡ book.quanta)) }
+    ensures more { IfOk result (λ b. book.committed < book.quanta → book.committed < b.committed) }
+    ensures few { IfOk result (λ b. b.committed ≤ b.quanta) }
+{
+    let worked = book.work_on(alloc, gate)?;
+    Ok(worked)
+}

@@ -1,0 +1,89 @@
+//! A world that runs on in place.
+
+ghost use Rattle.std.specs.Prelude.{◌≡◌, ◌<◌, IfOk, OnOk, length};
+ghost use Rattle.tierra_model.specs.declared.limits.TheConstants.{MOST_QUANTA};
+ghost use Rattle.tierra_model.specs.Quantum.{quantum};
+ghost use Rattle.tierra_model.specs.Sound.{IsSound};
+ghost use Rattle.tierra_model.specs.World.{first_of};
+
+use crate::slice::run_quantum;
+use crate::sole::Sole;
+use std::alloc::Global;
+use std::marker::{Brand, Model};
+use std::sync::ledger::{Blank, Ledger};
+use step_count::Steps;
+use tierra_model::OutOfMemory;
+use world_core::World;
+
+/// A world that runs on in place, one quantum after another, for who looks at it between two of them. Where a quantum found no
+/// memory it has stopped in the middle, and the world is of no use any more.
+#[derive(Drop)]
+pub struct InPlace {
+    sole: Sole,
+}
+
+impl Model for InPlace {
+    ghost use Rattle.tierra_model.specs.World as world;
+
+    ghost Value = { world.World };
+
+    ghost view = { λ r. r.sole.world };
+}
+
+impl InPlace {
+    /// The world, of which nobody has a version.
+    pub fn of(world: World) -> Result<InPlace, OutOfMemory>
+        ensures { IfOk result (λ r. r ≡ world.world) }
+    {
+        let _settings = world.settings();
+        Ok(InPlace {
+            sole: Sole::new(world.begin())?,
+        })
+    }
+
+    /// The number of the creature whose turn it is.
+    pub fn first(&self) -> u64
+        requires { IsSound self.now }
+        ensures { result ≡ first_of self.now.slicer }
+    {
+        self.sole.front().id
+    }
+
+    /// How many genotypes were saved.
+    pub fn kept(&self) -> u64
+        ensures { result ≡ length self.now.saved }
+    {
+        self.sole.kept()
+    }
+
+    /// The next quantum.
+    pub fn next(&mut self, alloc: Global) -> Result<(), OutOfMemory>
+        requires sound { IsSound self.old }
+        requires more { self.old.quanta < MOST_QUANTA }
+        ensures { OnOk result (self.new ≡ quantum self.old) }
+    {
+        counted_next::<Brand>(alloc, &mut self.sole, Blank::new(1))
+    }
+
+    /// The world between two quanta.
+    pub fn finish(self) -> World
+        requires { IsSound self }
+        ensures { result.world ≡ self }
+    {
+        self.sole.into_running().finish()
+    }
+}
+
+// The next quantum, with an account of the instructions that only contracts see.
+fn counted_next<L: Ledger>(alloc: Global, sole: &mut Sole, blank: Blank) -> Result<(), OutOfMemory>
+    requires sound { IsSound sole.old.world }
+    requires more { sole.old.world.quanta < MOST_QUANTA }
+    requires name { blank.name ≡ L.name }
+    requires parts { blank.parts ≡ L.parts }
+    requires some { 0 < L.parts }
+    ensures { OnOk result (sole.new.world ≡ quantum sole.old.world) }
+{
+    let settings = *sole.settings();
+    let mut steps = Steps::<L>::start(blank);
+    run_quantum(alloc, sole, &settings, &mut steps)
+}
