@@ -105,6 +105,21 @@ fn the_first_difference_is_told(rt: HostRuntime) -> Result<(), Fail> {
     let short = [FREE[0], Block { at: 4, size: 90 }];
     let erred = [second, Standing { errors: 1, ..first }];
     let cells = [(1, 2), (0, 8)];
+    let of_cell = Stale::Cell {
+        at: 1,
+        seen: 2,
+        now: 26,
+    };
+    let of_free = Stale::Free {
+        place: 1,
+        seen: Some(short[1]),
+        now: Some(FREE[1]),
+    };
+    let of_yard = Stale::Yard {
+        place: 1,
+        seen: Some(erred[1]),
+        now: Some(first),
+    };
     let rows = [
         (
             other,
@@ -114,39 +129,9 @@ fn the_first_difference_is_told(rt: HostRuntime) -> Result<(), Fail> {
             Err(Stale::Front { seen: 7, now: 1 }),
         ),
         (moved, cells, short, erred, Err(Stale::Body)),
-        (
-            front,
-            cells,
-            short,
-            erred,
-            Err(Stale::Cell {
-                at: 1,
-                seen: 2,
-                now: 26,
-            }),
-        ),
-        (
-            front,
-            TRUE_CELLS,
-            short,
-            erred,
-            Err(Stale::Free {
-                place: 1,
-                seen: Some(short[1]),
-                now: Some(FREE[1]),
-            }),
-        ),
-        (
-            front,
-            TRUE_CELLS,
-            FREE,
-            erred,
-            Err(Stale::Yard {
-                place: 1,
-                seen: Some(erred[1]),
-                now: Some(first),
-            }),
-        ),
+        (front, cells, short, erred, Err(of_cell)),
+        (front, TRUE_CELLS, short, erred, Err(of_free)),
+        (front, TRUE_CELLS, FREE, erred, Err(of_yard)),
         (front, TRUE_CELLS, FREE, YARD, Ok(())),
     ];
     for (front, cells, free, yard, want) in rows {
