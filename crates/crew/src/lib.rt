@@ -1,7 +1,8 @@
-//! Workers run coming quanta ahead, and a book commits what they find in slicer order.
+//! Several workers run coming quanta ahead, and a book commits what they find in slicer order. One worker alone has the
+//! book run them in its own world.
 //!
 //! The calling thread is worker 1. Between its turns it hands over the groups of the genebank that are new. When the
-//! workers have ended, it finishes the run by itself.
+//! other workers have ended, it finishes the run by itself.
 #![tactic(auto)]
 
 mod alone;

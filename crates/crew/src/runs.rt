@@ -113,45 +113,6 @@ fn crew_from<R: Threads + Wait + Sync, G: Gate + Sync, H: Hand>(
     }
 }
 
-// Runs a book to its end behind the turn lock.
-fn run_together<R: Threads + Wait + Sync, G: Gate + Sync, H: Hand>(
-    rt: &R,
-    alloc: Global,
-    book: Book,
-    workers: u32,
-    gate: &G,
-    hand: &mut H,
-) -> Ran
-    requires workers { (1 ≤ workers) × (workers ≤ 64) }
-    requires unhalted { H.halts hand.old ≡ 0 }
-    requires can { H.can_put hand.old }
-    requires setup { H.setup hand.old ≡ book.setup }
-    requires quanta { H.quanta hand.old ≡ book.quanta }
-    requires done { H.done hand.old ≤ length (run_bank book.setup book.committed) }
-    ensures ended { IfEnded result (λ b. (b.setup ≡ book.setup) × (b.quanta ≡ book.quanta) × (b.committed ≡ b.quanta)) }
-    ensures all_put { IfEnded result (λ b. H.done hand.new ≡ length (run_bank book.setup book.quanta)) }
-    ensures halted { IfHalted result (λ b. (b.setup ≡ book.setup) × (b.quanta ≡ book.quanta) × (b.stopped ≡ true)) }
-    ensures halts { HaltsAsIn result (H.halts hand.new) }
-    ensures setup { H.setup hand.new ≡ H.setup hand.old }
-    ensures quanta { H.quanta hand.new ≡ H.quanta hand.old }
-    ensures later { H.goes_to hand.old hand.new }
-{
-    let _committed = book.committed();
-    let Ok((lock, first)) = TurnLock::of(alloc, book) else {
-        return Ran::OutOfMemory;
-    };
-    let mut first = Some(first);
-    let Led { seat, next } = crew_from(rt, alloc, &lock, &mut first, 2, workers, gate, hand);
-    let mut book = lock.close(seat);
-    match next {
-        Next::Go => finish(alloc, book, hand),
-        Next::Halt => {
-            book.stop();
-            Ran::Halted(book)
-        }
-    }
-}
-
 /// Runs a book to its end, with this many workers, and hands the groups of its genebank over as they come. The calling
 /// thread is worker 1.
 pub fn run_crew<R: Threads + Wait + Sync, G: Gate + Sync, H: Hand>(
@@ -187,5 +148,17 @@ pub fn run_crew<R: Threads + Wait + Sync, G: Gate + Sync, H: Hand>(
     if workers == 1 {
         return run_alone(alloc, book, gate, hand);
     }
-    run_together(rt, alloc, book, workers, gate, hand)
+    let Ok((lock, first)) = TurnLock::of(alloc, book) else {
+        return Ran::OutOfMemory;
+    };
+    let mut first = Some(first);
+    let Led { seat, next } = crew_from(rt, alloc, &lock, &mut first, 2, workers, gate, hand);
+    let mut book = lock.close(seat);
+    match next {
+        Next::Go => finish(alloc, book, hand),
+        Next::Halt => {
+            book.stop();
+            Ran::Halted(book)
+        }
+    }
 }

@@ -20,10 +20,17 @@ use std::marker::Model;
 use std::snapshot::Snapshot;
 use std::sync::Wait;
 use std::sync::atomic::{AtomicU64, Ordering};
+use std::thread::yield_now;
 use tierra_model::OutOfMemory;
 
-/// So often a waiter looks whether it is served before it parks.
+/// So often a waiter looks whether it is served, one look at once after another.
 const LOOKS: u32 = 200;
+
+/// So often more it looks where few are before it, and lets other threads run between two looks. Then it parks.
+const MORE_LOOKS: u32 = 500;
+
+/// How many are few.
+const FEW: u64 = 3;
 
 // A seat, as the table knows it.
 type TableSeat<T> = atomic_table::Seat<Option<T>, View>;
@@ -285,11 +292,17 @@ impl<T: Kept> TurnLock<T> {
         ensures same { (table_seat.new.table_id ≡ table_seat.old.table_id) × (table_seat.new.id ≡ table_seat.old.id) }
         ensures called { table_seat.new.me ≡ (at_stage table_seat.old.me.0 (Called ticket []), table_seat.old.me.1) }
     {
-        for _ in 0..LOOKS {
-            let Some(_) = self.served_before(table_seat, ticket) else {
+        for look in 0..LOOKS + MORE_LOOKS {
+            let Some(serving) = self.served_before(table_seat, ticket) else {
                 return;
             };
-            spin_loop();
+            if look < LOOKS {
+                spin_loop();
+            } else if ticket.saturating_sub(serving) <= FEW {
+                yield_now();
+            } else {
+                break;
+            }
         }
         self.parked.fetch_add(1, Ordering::SeqCst);
         self.wait_parked(rt, table_seat, ticket);
