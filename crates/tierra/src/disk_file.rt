@@ -18,6 +18,8 @@ pub struct DiskFile<'r, R: Files<File = File>> {
     name: &'static str,
     file: Option<File>,
     is_locked: bool,
+    // the length that was told last
+    told_len: Option<u64>,
 }
 
 // Files in the place of standard ones that the caller closed. While they are open the desk's file cannot take such a number,
@@ -88,6 +90,16 @@ fn length_of(file: &File) -> io::Result<u64>
     Ok(len)
 }
 
+// An error where a length was told and the file has another one.
+fn has_length(file: &File, told: Option<u64>) -> io::Result<()> {
+    match told {
+        Some(told) if length_of(file)? != told => {
+            Err(io::Error::from(io::ErrorKind::ResourceBusy))
+        }
+        _ => Ok(()),
+    }
+}
+
 fn write(file: &File, at: u64, piece: &[u8]) -> io::Result<()>
     ensures { OnOk result (at + length piece.now ≤ 2 ^ 62) }
 {
@@ -105,6 +117,7 @@ impl<'r, R: Files<File = File>> DiskFile<'r, R> {
             name,
             file: None,
             is_locked: false,
+            told_len: None,
         }
     }
 
@@ -112,18 +125,25 @@ impl<'r, R: Files<File = File>> DiskFile<'r, R> {
     pub fn len(&mut self) -> io::Result<u64>
         ensures { IfOk result (λ n. n ≤ 2 ^ 62) }
     {
-        match found(self.rt, self.name, &mut self.file)? {
-            Some(file) => length_of(file),
-            None => Ok(0),
-        }
+        let len = match found(self.rt, self.name, &mut self.file)? {
+            Some(file) => length_of(file)?,
+            None => 0,
+        };
+        self.told_len = Some(len);
+        Ok(len)
     }
 
-    /// Fills the buffer with the bytes at a place. An error where the file ends before.
+    /// Fills the buffer with the bytes at a place. An error where the file ends before. One too where the file is not locked
+    /// and no longer has the length that was told: a run appends to it, and what was read may lack a part.
     pub fn read_at(&mut self, at: u64, buf: &mut [u8]) -> io::Result<()> {
-        match found(self.rt, self.name, &mut self.file)? {
-            Some(file) => file.read_exact_at(buf, at),
-            None => Err(io::Error::from(io::ErrorKind::UnexpectedEof)),
+        let Some(file) = found(self.rt, self.name, &mut self.file)? else {
+            return Err(io::Error::from(io::ErrorKind::UnexpectedEof));
+        };
+        file.read_exact_at(buf, at)?;
+        if self.is_locked {
+            return Ok(());
         }
+        has_length(file, self.told_len)
     }
 
     /// Writes the piece at a place. An error where another run has the file, or the end would pass 2^62.
