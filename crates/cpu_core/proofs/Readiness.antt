@@ -13,7 +13,7 @@ use Rattle.tierra_model.proofs.Shares.{Shares}
 use Rattle.tierra_model.proofs.Steps.{Steps, step_steps}
 use Rattle.mutation_streams.specs.Draws.{DrawFields}
 use Rattle.cpu_core.specs.Draws.{with_rates_of}
-use Rattle.cpu_core.specs.Executing.{Executes, IsAfterStep, IsReady, creature_after, view_after}
+use Rattle.cpu_core.specs.Executing.{Executes, IsAfterStep, CanExecute, creature_after, view_after}
 use Rattle.cpu_core.proofs.Counting.{Counts, WritesOwn, step_counts}
 use Rattle.cpu_core.proofs.Looking.{pass-always, pass-keeps, step_below}
 
@@ -29,7 +29,7 @@ module _ {S : Type 0} (size_of : S → ℕ) (cells : S → ℕ → ℕ) (writabl
     (write_cell : (v : S) (p x q : ℕ) → p < size_of v → writable v p ≡ true → x < 32 → q < size_of v → cells (written v p x) q ≡ (if q == p then x else cells v q))
     (write_writable : (v : S) (p x q : ℕ) → p < size_of v → writable v p ≡ true → x < 32 → writable (written v p x) q ≡ writable v q) where
   abbrev Ready : Settings → Creature → S → Type 0
-  Ready = IsReady size_of cells writable
+  Ready = CanExecute size_of cells writable
 
   -- a write to a cell of the creature's own
   wrote_ready : (s : Settings) (c : Creature) (v : S) (at value : ℕ) → at < s.soup_size → value < 32 → (is_in c.own at || is_in_daughter c.daughter at) ≡ true

@@ -6,7 +6,7 @@ ghost use Rattle.tierra_model.specs.Blocks.{is_in, is_in_daughter};
 ghost use Rattle.tierra_model.specs.Ring.{address};
 ghost use Rattle.tierra_model.specs.Step.{copy, flip_bit};
 ghost use Rattle.cpu_core.specs.Draws.{copy_bit_of};
-ghost use Rattle.cpu_core.specs.Executing.{Executes, IsReady};
+ghost use Rattle.cpu_core.specs.Executing.{Executes, CanExecute};
 
 use crate::birth::fail;
 use crate::draws::copy_bit;
@@ -51,7 +51,7 @@ pub fn mov_iab<V: View>(
     i: u32,
     settings: &Settings,
 ) -> Act
-    requires ready { IsReady V.size V.cells V.writable settings.now creature.old view.old }
+    requires ready { CanExecute V.size V.cells V.writable settings.now creature.old view.old }
     requires moved { creature.old.moved < COUNT_END }
     requires errors { creature.old.errors < COUNT_END }
     ensures { Executes V.cells V.looked V.written (copy creature.old

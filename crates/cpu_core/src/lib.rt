@@ -16,7 +16,7 @@ ghost use Rattle.tierra_model.specs.Draw.{word};
 ghost use Rattle.tierra_model.specs.Step.{execute, step};
 ghost use Rattle.tierra_model.specs.Table.{op_of};
 ghost use Rattle.cpu_core.specs.Draws.{copy_bit_of, flaw_of, with_rates_of};
-ghost use Rattle.cpu_core.specs.Executing.{Executes, IsAfterStep, IsReady, start_record};
+ghost use Rattle.cpu_core.specs.Executing.{Executes, IsAfterStep, CanExecute, start_record};
 
 use crate::arithmetic::{
     dec_c, inc_a, inc_b, inc_c, mov_ab, mov_cd, or1, shl, sub_ab, sub_ac, zero,
@@ -47,13 +47,13 @@ pub fn step<V: View, L: Ledger>(
     settings: &Settings,
     steps: &mut Steps<L>,
 ) -> Act
-    requires ready { IsReady V.size V.cells V.writable settings.now creature.old view.old }
+    requires ready { CanExecute V.size V.cells V.writable settings.now creature.old view.old }
     requires moved { creature.old.moved < COUNT_END }
     requires errors { creature.old.errors < COUNT_END }
     requires ran { creature.old.ran < COUNT_END }
     ensures executes { Executes V.cells V.looked V.written (step (with_rates_of draws.now settings.now)
         (word draws.now.seed draws.now.quantum) i creature.old) view.old view.new creature.new result }
-    ensures ready { IsReady V.size V.cells V.writable settings.now creature.new view.new }
+    ensures ready { CanExecute V.size V.cells V.writable settings.now creature.new view.new }
     ensures after { IsAfterStep creature.old creature.new }
     ensures ticks { steps.new ≡ steps.old + 1 }
 {
@@ -93,7 +93,7 @@ fn execute<V: View>(
     i: u32,
     settings: &Settings,
 ) -> Act
-    requires ready { IsReady V.size V.cells V.writable settings.now creature.old view.old }
+    requires ready { CanExecute V.size V.cells V.writable settings.now creature.old view.old }
     requires ip { ip < settings.now.soup_size }
     requires errors { creature.old.errors < COUNT_END }
     requires moved { creature.old.moved < COUNT_END }

@@ -28,7 +28,7 @@ HaltsBy next.Go halts = halts ≡ 0
 HaltsBy next.Halt halts = 0 < halts
 
 -- a hand of the run, which has not halted
-pub record IsReady (run : SetupFields × ℕ) (setup : SetupFields) (quanta done halts : ℕ) (Can : Type 0) : Type 0 where
+pub record IsUnhalted (run : SetupFields × ℕ) (setup : SetupFields) (quanta done halts : ℕ) (Can : Type 0) : Type 0 where
   pub unhalted : halts ≡ 0
   pub run_is : run ≡ (setup, quanta)
   pub within : done ≤ length (run_bank setup quanta)

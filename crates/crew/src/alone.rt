@@ -1,7 +1,7 @@
 //! A run with one worker.
 
 ghost use Rattle.std.specs.Prelude.{◌≡◌, ◌<◌, ◌≤◌, IfOk, length, true};
-ghost use Rattle.crew.specs.Hands.{IsReady, run_bank};
+ghost use Rattle.crew.specs.Hands.{IsUnhalted, run_bank};
 ghost use Rattle.crew.specs.Rans.{HaltsAsIn, IfEnded, IfHalted};
 
 use crate::finish::hand_rest;
@@ -15,7 +15,7 @@ use tierra_model::OutOfMemory;
 /// Runs a book to its end as one worker alone, for whom the world stays as it is while a job runs: so each quantum is run in
 /// the world itself. The groups are handed over as they come.
 pub(crate) fn run_alone<G: Gate, H: Hand>(alloc: Global, book: Book, gate: &G, hand: &mut H) -> Ran
-    requires hand { IsReady (book.setup, book.quanta) (H.setup hand.old) (H.quanta hand.old)
+    requires hand { IsUnhalted (book.setup, book.quanta) (H.setup hand.old) (H.quanta hand.old)
         (H.done hand.old) (H.halts hand.old) (H.can_put hand.old) }
     ensures ended { IfEnded result (λ b. (b.setup ≡ book.setup) × (b.quanta ≡ book.quanta) × (b.committed ≡ b.quanta)) }
     ensures all_put { IfEnded result (λ b. H.done hand.new ≡ length (run_bank book.setup book.quanta)) }

@@ -1,7 +1,7 @@
 //! The end of a run, when the workers have ended.
 
 ghost use Rattle.std.specs.Prelude.{◌≡◌, ◌+◌, ◌<◌, ◌≤◌, OnOk, length, min, true};
-ghost use Rattle.crew.specs.Hands.{IsReady, run_bank};
+ghost use Rattle.crew.specs.Hands.{IsUnhalted, run_bank};
 ghost use Rattle.crew.specs.Rans.{HaltsAsIn, IfEnded, IfHalted};
 
 use crate::hand::{Hand, Next};
@@ -44,7 +44,7 @@ fn counted_advance<L: Ledger>(
 // Hands over all groups that are left, of a book that has committed all.
 pub(crate) fn hand_rest<H: Hand>(alloc: Global, book: Book, hand: &mut H) -> Ran
     requires all { book.committed ≡ book.quanta }
-    requires hand { IsReady (book.setup, book.quanta) (H.setup hand.old) (H.quanta hand.old)
+    requires hand { IsUnhalted (book.setup, book.quanta) (H.setup hand.old) (H.quanta hand.old)
         (H.done hand.old) (H.halts hand.old) (H.can_put hand.old) }
     ensures ended { IfEnded result (λ b. b ≡ book) }
     ensures all_put { IfEnded result (λ b. H.done hand.new ≡ length (run_bank book.setup book.quanta)) }
@@ -69,7 +69,7 @@ pub(crate) fn hand_rest<H: Hand>(alloc: Global, book: Book, hand: &mut H) -> Ran
 
 // Commits the quanta that are left, and hands the groups over as they come.
 pub(crate) fn finish<H: Hand>(alloc: Global, book: Book, hand: &mut H) -> Ran
-    requires hand { IsReady (book.setup, book.quanta) (H.setup hand.old) (H.quanta hand.old)
+    requires hand { IsUnhalted (book.setup, book.quanta) (H.setup hand.old) (H.quanta hand.old)
         (H.done hand.old) (H.halts hand.old) (H.can_put hand.old) }
     ensures ended { IfEnded result (λ b. (b.setup ≡ book.setup) × (b.quanta ≡ book.quanta) × (b.committed ≡ b.quanta)) }
     ensures all_put { IfEnded result (λ b. H.done hand.new ≡ length (run_bank book.setup book.quanta)) }

@@ -5,7 +5,7 @@ ghost use Rattle.std.specs.Thread.{IsSync};
 ghost use Rattle.tierra_model.specs.Genebank.{groups_of};
 ghost use Rattle.turn_lock.specs.Seats.{own_of};
 ghost use Rattle.commit_book.specs.Books.{world_of};
-ghost use Rattle.crew.specs.Hands.{AreNext, HaltsBy, IsReady, WasLed, run_bank};
+ghost use Rattle.crew.specs.Hands.{AreNext, HaltsBy, IsUnhalted, WasLed, run_bank};
 ghost use Rattle.crew.specs.Rans.{HaltsAsIn, IfEnded, IfHalted};
 ghost use Rattle.crew.specs.Works.{HasWorked, IsFirst, IsOther, IsThere, SpeaksFrom};
 
@@ -73,7 +73,7 @@ fn crew_from<R: Threads + Wait + Sync, G: Gate + Sync, H: Hand>(
 ) -> Led
     requires seat { IsThere first.old (IsFirst lock.now caller) }
     requires callers { (2 ≤ caller) × (caller ≤ workers + 1) × (workers ≤ 64) }
-    requires hand { IsReady lock.now.opening.setup (H.setup hand.old) (H.quanta hand.old)
+    requires hand { IsUnhalted lock.now.opening.setup (H.setup hand.old) (H.quanta hand.old)
         (H.done hand.old) (H.halts hand.old) (H.can_put hand.old) }
     ensures seat { SpeaksFrom caller lock.now result.seat }
     ensures hand { WasLed result.next (H.setup hand.old) (H.setup hand.new) (H.quanta hand.old) (H.quanta hand.new)
@@ -99,7 +99,7 @@ fn crew_from<R: Threads + Wait + Sync, G: Gate + Sync, H: Hand>(
         &mut || -> Led
             requires { (IsSync R.row × IsSync G.row) × IsThere mine (IsFirst lock.now (caller + 1))
                 × ((2 ≤ caller) × (caller ≤ workers) × (workers ≤ 64))
-                × IsReady lock.now.opening.setup (H.setup hand.now) (H.quanta hand.now)
+                × IsUnhalted lock.now.opening.setup (H.setup hand.now) (H.quanta hand.now)
                 (H.done hand.now) (H.halts hand.now) (H.can_put hand.now) }
             ensures { SpeaksFrom (caller + 1) lock.entry.now result.seat
                 × WasLed result.next (H.setup hand.entry.now) (H.setup hand.exit.now)

@@ -3,7 +3,7 @@ use Rattle.std.proofs.Common.{◌≡◌, ◌≢◌, ◌∙◌, inl, inr, ⊎_eli
 use Rattle.std.proofs.lemmas.Bool.{cases_eq}
 use Rattle.std.proofs.lemmas.List.{take_at, drop_at, get_or-take, length-drop}
 use Rattle.desk_io.specs.Desk.{spliced, Torn}
-use Rattle.file_journal.specs.Creating.{IsBlank, IsMade, IsMaking, IsReady}
+use Rattle.file_journal.specs.Creating.{IsBlank, IsMade, IsMaking, LacksFirstByte}
 use Rattle.file_journal.specs.Files.{IsBegun, IsFresh, IsTitle}
 use Rattle.file_journal.specs.declared.header.Header.{Header}
 use Rattle.file_journal.proofs.Shapes.{torn_byte, spliced_behind, spliced_byte, first_and}
@@ -79,7 +79,7 @@ module _ (h : Header) (title_len : length h.title ≡ 12) where
   pub header_first : take 1 (h.title ++ behind_title) ≡ first ∷ []
   header_first = ap (λ (t : List ℕ). take 1 (t ++ behind_title)) title_is
 
-  pub blank_written : (file : List ℕ) → IsTitle h.title → IsBlank file → IsReady h (spliced file 1 behind_first)
+  pub blank_written : (file : List ℕ) → IsTitle h.title → IsBlank file → LacksFirstByte h (spliced file 1 behind_first)
   blank_written file is blank =
       let tail = drop 1 file in
       let begins : file ≡ 0 ∷ tail = first_and file blank.1 ∙ ap (λ (b : ℕ). b ∷ tail) blank.0 in
@@ -94,7 +94,7 @@ module _ (h : Header) (title_len : length h.title ≡ 12) where
         not_whole = zero_is_not 0 first refl is;
       }
 
-  pub begun_written : (file : List ℕ) → IsBegun h.title file → 45 ≤ length file → IsReady h (spliced file 12 behind_title)
+  pub begun_written : (file : List ℕ) → IsBegun h.title file → 45 ≤ length file → LacksFirstByte h (spliced file 12 behind_title)
   begun_written file begun long =
       let b = get_or file 0 0 in
       let front = begun_front h.title file title_len begun long in
@@ -121,7 +121,7 @@ module _ (h : Header) (title_len : length h.title ≡ 12) where
   }
 
   -- the first byte: the file has no header yet, or a whole one with no records
-  pub first_torn : (file image : List ℕ) → IsReady h file → Torn 0 1 file image → IsMaking h image
+  pub first_torn : (file image : List ℕ) → LacksFirstByte h file → Torn 0 1 file image → IsMaking h image
   first_torn file image ready torn =
       let behind = others ++ (h.digest ++ 0 ∷ ready.rest) in
       let here = subst (λ (f : List ℕ). Torn 0 1 f image) ready.text torn in
@@ -136,7 +136,7 @@ module _ (h : Header) (title_len : length h.title ≡ 12) where
       inl (inr (inr made)))
       (cases_eq b first)
 
-  pub first_written : (file : List ℕ) → IsReady h file → IsMade h (spliced file 0 (first ∷ []))
+  pub first_written : (file : List ℕ) → LacksFirstByte h file → IsMade h (spliced file 0 (first ∷ []))
   first_written file ready =
       let behind = others ++ (h.digest ++ 0 ∷ ready.rest) in
       whole_made (spliced file 0 (first ∷ [])) ready.rest

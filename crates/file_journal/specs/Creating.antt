@@ -15,7 +15,7 @@ IsAtStage title stage.Blank file = IsBlank file
 IsAtStage title stage.Begun file = IsBegun title file × (45 ≤ length file)
 
 -- all of its header is written but the first byte
-pub record IsReady (h : Header) (file : List ℕ) : Type 0 where
+pub record LacksFirstByte (h : Header) (file : List ℕ) : Type 0 where
   pub first : ℕ
   pub rest : List ℕ
   pub text : file ≡ first ∷ (drop 1 h.title ++ (h.digest ++ 0 ∷ rest))

@@ -2,7 +2,7 @@
 
 ghost use Rattle.std.specs.Prelude.{◌≡◌, ◌<◌, ◌≤◌, IfSome, OnOk, length, take};
 ghost use Rattle.desk_io.specs.Desk.{IsDiskCall, IsSettled};
-ghost use Rattle.file_journal.specs.Creating.{IsAtStage, IsBlank, IsMade, IsMaking, IsReady, header_bytes};
+ghost use Rattle.file_journal.specs.Creating.{IsAtStage, IsBlank, IsMade, IsMaking, LacksFirstByte, header_bytes};
 ghost use Rattle.file_journal.specs.Files.{IsFresh, IsTitle};
 ghost use Rattle.file_journal.specs.Steps.{Becomes, IfTold};
 
@@ -59,7 +59,7 @@ fn fill_blank<D: Desk>(desk: &mut D, header: &Header, bytes: &[u8]) -> Result<()
     requires title { IsTitle header.now.title }
     requires bytes { bytes.now ≡ header_bytes header.now }
     requires blank { IfSome (D.state desk.old).reads IsBlank }
-    ensures ready { OnOk result (Becomes (D.state desk.old) (D.state desk.new) (λ file. IsReady header.now)) }
+    ensures ready { OnOk result (Becomes (D.state desk.old) (D.state desk.new) (λ file. LacksFirstByte header.now)) }
     ensures call { IsDiskCall (D.state desk.old) (D.state desk.new) result
         (IfTold (D.state desk.old) (λ file. IsFresh header.now.title)) }
 {
@@ -72,7 +72,7 @@ fn fill_begun<D: Desk>(desk: &mut D, header: &Header, bytes: &[u8]) -> Result<()
     requires settled { IsSettled (D.state desk.old) }
     requires bytes { bytes.now ≡ header_bytes header.now }
     requires begun { IfSome (D.state desk.old).reads (IsAtStage header.now.title Stage.Begun) }
-    ensures ready { OnOk result (Becomes (D.state desk.old) (D.state desk.new) (λ file. IsReady header.now)) }
+    ensures ready { OnOk result (Becomes (D.state desk.old) (D.state desk.new) (λ file. LacksFirstByte header.now)) }
     ensures call { IsDiskCall (D.state desk.old) (D.state desk.new) result
         (IfTold (D.state desk.old) (λ file. IsFresh header.now.title)) }
 {
@@ -91,7 +91,7 @@ fn fill<D: Desk>(
     requires title { IsTitle header.now.title }
     requires bytes { bytes.now ≡ header_bytes header.now }
     requires stage { IfSome (D.state desk.old).reads (IsAtStage header.now.title stage) }
-    ensures ready { OnOk result (Becomes (D.state desk.old) (D.state desk.new) (λ file. IsReady header.now)) }
+    ensures ready { OnOk result (Becomes (D.state desk.old) (D.state desk.new) (λ file. LacksFirstByte header.now)) }
     ensures call { IsDiskCall (D.state desk.old) (D.state desk.new) result
         (IfTold (D.state desk.old) (λ file. IsFresh header.now.title)) }
 {
@@ -109,7 +109,7 @@ fn fill<D: Desk>(
 fn finish<D: Desk>(desk: &mut D, header: &Header, bytes: &[u8]) -> Result<(), DiskFailed>
     requires settled { IsSettled (D.state desk.old) }
     requires bytes { bytes.now ≡ header_bytes header.now }
-    requires ready { IfSome (D.state desk.old).reads (IsReady header.now) }
+    requires ready { IfSome (D.state desk.old).reads (LacksFirstByte header.now) }
     ensures made { OnOk result (Becomes (D.state desk.old) (D.state desk.new) (λ file. IsMade header.now)) }
     ensures call { IsDiskCall (D.state desk.old) (D.state desk.new) result
         (IfTold (D.state desk.old) (λ file. IsMaking header.now)) }

@@ -24,7 +24,7 @@ use Rattle.tierra_model.proofs.Steps.{InSoup, Steps, step_steps}
 use Rattle.tierra_model.proofs.WithinRun.{cells_below}
 use Rattle.mutation_streams.specs.Draws.{DrawFields, draws_of}
 use Rattle.cpu_core.specs.Draws.{with_rates_of}
-use Rattle.cpu_core.specs.Executing.{Executes, IsReady, after_act, creature_after, view_after}
+use Rattle.cpu_core.specs.Executing.{Executes, CanExecute, after_act, creature_after, view_after}
 use Rattle.world_core.specs.Running.{IsRunning}
 use Rattle.serial_slicer.specs.Turns.{InQuantum, IsTurn, SoleFields}
 use Rattle.serial_slicer.proofs.Fronts.{running-before}
@@ -198,7 +198,7 @@ after_step d s q i c e v u a t k settings draws x =
 -- ---- before a step
 
 pub can_step : (s : Settings) (c : Creature) (v : SoleFields) → IsTurn c v → InQuantum (put c v.world) → s ≡ v.world.settings
-    → IsReady (λ (w : SoleFields). length w.world.soup) cells_of (λ (w : SoleFields) (p : ℕ). is_in w.own p || is_in_daughter w.daughter p) s c v
+    → CanExecute (λ (w : SoleFields). length w.world.soup) cells_of (λ (w : SoleFields) (p : ℕ). is_in w.own p || is_in_daughter w.daughter p) s c v
 can_step s c v t k settings =
     let l : HasFront v.world = front-before c v.world k.within.population.has_front in
     let same : s.soup_size ≡ k.settings.soup_size = ap (λ (z : Settings). z.soup_size) (settings ∙ k.within.settings) in

@@ -84,6 +84,10 @@ impl View for Sole {
     fn set(&mut self, at: u32, value: u8) {
         self.running.write(at, value);
     }
+
+    fn row(&self) -> Option<&[u8]> {
+        Some(self.running.row())
+    }
 }
 
 ghost use Rattle.tierra_model.specs.Blocks.{is_in};

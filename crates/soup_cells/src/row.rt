@@ -43,6 +43,13 @@ impl Row {
     }
 
     #[inline]
+    pub(crate) fn cells(&self) -> &[u8]
+        ensures { result.now ≡ self.now }
+    {
+        self.cells.as_slice()
+    }
+
+    #[inline]
     pub(crate) fn set(&mut self, at: u32, value: u8)
         requires within { at < length self.old }
         requires code { value < 32 }

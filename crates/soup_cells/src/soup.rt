@@ -62,6 +62,14 @@ impl Soup {
         self.row.get(at)
     }
 
+    /// All cells.
+    #[inline]
+    pub fn row(&self) -> &[u8]
+        ensures { result.now ≡ self.now.cells }
+    {
+        self.row.cells()
+    }
+
     /// Makes a cell ready, so that it can be set without memory.
     pub fn ready(&mut self, at: u32) -> Result<(), OutOfMemory>
         requires { at < length self.old.cells }

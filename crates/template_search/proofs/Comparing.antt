@@ -17,7 +17,7 @@ compare-place n (v ∷ vs) p q e =
     λ i. LookAt (e i) (λ u. if v + u == 1 then next i else Answer false)
 
 module _ {S : Type 0} (cells : S → ℕ → ℕ) (looked : S → ℕ → S) (n : ℕ) where
-  compare_one : (v : ℕ) (vs : List ℕ) (place : ℕ) (s : S) (b : Bool) → place < n → (v + cells s place == 1) ≡ b
+  pub compare_one : (v : ℕ) (vs : List ℕ) (place : ℕ) (s : S) (b : Bool) → place < n → (v + cells s place == 1) ≡ b
       → pass cells looked (compare n (v ∷ vs) place) s ≡ pass cells looked (if b then compare n vs ((place + 1) % n) else Answer false) (looked s place)
   unfolding compare
   compare_one v vs place s b h e =

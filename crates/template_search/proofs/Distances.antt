@@ -1,29 +1,27 @@
 -- Trying the candidates at one distance after another.
-use Rattle.std.proofs.Common.{◌≡◌, ℕ, zero, suc, ◌+◌, ◌-◌, ◌<◌, ◌≤◌, List, [], ◌∷◌, ◌++◌, sym, ◌∙◌, ap, arith, length}
+use Rattle.std.proofs.Common.{◌≡◌, ℕ, zero, suc, ◌+◌, ◌-◌, ◌<◌, ◌≤◌, List, [], ◌∷◌, ◌++◌, refl, sym, ◌∙◌, ap, append_assoc, arith, length}
 use Rattle.std.specs.Prelude.{Option, Some, None}
 use Rattle.tierra_model.specs.declared.searching.Way.{Way}
 use Rattle.tierra_model.specs.declared.searching.Way.TheVariants.{Backward, Forward, Outward}
 use Rattle.tierra_model.specs.Look.{pass, Passes}
 use Rattle.tierra_model.specs.Search.{try_each, at_distance, candidates}
 use Rattle.template_search.specs.Sides.{on_sides}
-use Rattle.template_search.proofs.Reaching.{Reaches}
+use Rattle.template_search.specs.Reaching.{Reaches}
 use Rattle.template_search.proofs.Trying.{first_found, none_found}
 
-module _ {S : Type 0} (cells : S → ℕ → ℕ) (looked : S → ℕ → S) (n ip : ℕ) (way : Way) (limit : ℕ) (vs : List ℕ) (s0 : S) where
+module _ {S : Type 0} (cells : S → ℕ → ℕ) (looked : S → ℕ → S) (n ip : ℕ) (way : Way) (start limit : ℕ) (vs : List ℕ) (s0 : S) where
   abbrev from : ℕ → S → S × Option ℕ
   from k s = pass cells looked (try_each n vs (candidates n ip (length vs) way (limit - k) (k + 1))) s
 
   abbrev whole : S × Option ℕ
-  whole = pass cells looked (try_each n vs (candidates n ip (length vs) way limit 1)) s0
+  whole = from start s0
 
-  -- what is left to try after the first k distances gives what trying all gives
+  -- what is left to try after distance k gives what trying all after the start gives
   pub record SearchesOn (k : ℕ) (s : S) : Type 0 where
     pub same : from k s ≡ whole
 
-  pub search_begins : SearchesOn 0 s0
-  search_begins =
-      let e : limit - 0 ≡ limit = omega arith in
-      record { same = ap (λ (j : ℕ). pass cells looked (try_each n vs (candidates n ip (length vs) way j 1)) s0) e }
+  pub search_begins : SearchesOn start s0
+  search_begins = record { same = refl }
 
   sides-at_distance : (k a b : ℕ) (w : Way) → Reaches n ip (length vs) k a b → on_sides w a b ≡ at_distance n ip (length vs) w k
   sides-at_distance k a b Outward r = λ i. r.ahead i ∷ r.behind i ∷ []
@@ -49,14 +47,53 @@ module _ {S : Type 0} (cells : S → ℕ → ℕ) (looked : S → ℕ → S) (n 
 
   pub search_finds : (k a b p : ℕ) (s u : S) → k < limit → Reaches n ip (length vs) (k + 1) a b
       → Passes cells looked (try_each n vs (on_sides way a b)) s u (Some p) → SearchesOn k s
-      → Passes cells looked (try_each n vs (candidates n ip (length vs) way limit 1)) s0 u (Some p)
+      → Passes cells looked (try_each n vs (candidates n ip (length vs) way (limit - start) (start + 1))) s0 u (Some p)
   search_finds k a b p s u h r e c =
       sym c.same ∙ step_of k a b s h r
       ∙ first_found cells looked n vs (on_sides way a b) (candidates n ip (length vs) way (limit - (k + 1)) (k + 1 + 1)) s u p e
 
   pub search_fails : (k : ℕ) (s : S) → limit ≤ k → SearchesOn k s
-      → Passes cells looked (try_each n vs (candidates n ip (length vs) way limit 1)) s0 s None
+      → Passes cells looked (try_each n vs (candidates n ip (length vs) way (limit - start) (start + 1))) s0 s None
   unfolding candidates try_each
   search_fails k s h c =
       let e : limit - k ≡ zero = omega arith in
       sym c.same ∙ ap (λ (j : ℕ). pass cells looked (try_each n vs (candidates n ip (length vs) way j (k + 1))) s) e
+
+-- the candidates at the first distances, and those at the others
+candidates_after : (n ip t : ℕ) (way : Way) (a b d : ℕ) → candidates n ip t way (a + b) d ≡ candidates n ip t way a d ++ candidates n ip t way b (d + a)
+unfolding candidates
+candidates_after n ip t way zero b d =
+    let none : 0 + b ≡ b = omega arith in
+    let same : d ≡ d + 0 = omega arith in
+    ap (λ (k : ℕ). candidates n ip t way k d) none ∙ ap (λ (k : ℕ). candidates n ip t way b k) same
+candidates_after n ip t way (suc a) b d =
+    let one : suc a + b ≡ suc (a + b) = omega arith in
+    let same : d + 1 + a ≡ d + suc a = omega arith in
+    let rest = candidates_after n ip t way a b (d + 1) ∙ ap (λ (k : ℕ). candidates n ip t way a (d + 1) ++ candidates n ip t way b k) same in
+    ap (λ (k : ℕ). candidates n ip t way k d) one
+    ∙ ap (λ (l : List ℕ). at_distance n ip t way d ++ l) rest
+    ∙ sym (append_assoc (at_distance n ip t way d) (candidates n ip t way a (d + 1)) (candidates n ip t way b (d + suc a)))
+
+module _ {S : Type 0} (cells : S → ℕ → ℕ) (looked : S → ℕ → S) (n ip : ℕ) (way : Way) (near limit : ℕ) (vs : List ℕ) (within : near ≤ limit) where
+  abbrev first_ones : List ℕ
+  first_ones = candidates n ip (length vs) way near 1
+
+  abbrev others : List ℕ
+  others = candidates n ip (length vs) way (limit - near) (near + 1)
+
+  all_of : candidates n ip (length vs) way limit 1 ≡ first_ones ++ others
+  all_of =
+      let e : limit ≡ near + (limit - near) = omega arith in
+      let f : 1 + near ≡ near + 1 = omega arith in
+      ap (λ (k : ℕ). candidates n ip (length vs) way k 1) e ∙ candidates_after n ip (length vs) way near (limit - near) 1
+      ∙ ap (λ (d : ℕ). first_ones ++ candidates n ip (length vs) way (limit - near) d) f
+
+  -- one of the candidates at the first distances matches
+  pub found_near : (s u : S) (p : ℕ) → Passes cells looked (try_each n vs first_ones) s u (Some p)
+      → Passes cells looked (try_each n vs (candidates n ip (length vs) way limit 1)) s u (Some p)
+  found_near s u p e = rw all_of (first_found cells looked n vs first_ones others s u p e)
+
+  -- none of those matches, and the others are tried
+  pub found_far : (s w u : S) (o : Option ℕ) → Passes cells looked (try_each n vs first_ones) s w None → Passes cells looked (try_each n vs others) w u o
+      → Passes cells looked (try_each n vs (candidates n ip (length vs) way limit 1)) s u o
+  found_far s w u o e f = rw all_of (none_found cells looked n vs first_ones others s w e ∙ f)

@@ -6,3 +6,5 @@ pub mod Trying
 pub mod Reaching
 pub mod Distances
 pub mod Searching
+pub mod Telling
+pub mod Words

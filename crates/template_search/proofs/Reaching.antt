@@ -1,13 +1,9 @@
--- The candidates at one distance, and at the next.
-use Rattle.std.proofs.Common.{◌≡◌, ℕ, ◌+◌, ◌-◌, ◌%◌, ◌<◌, ◌⊎◌, inl, inr, sym, ◌∙◌, ap, arith}
+-- The candidates at one distance, and at the next and those after it.
+use Rattle.std.proofs.Common.{◌≡◌, ℕ, zero, suc, ◌+◌, ◌-◌, ◌%◌, ◌<◌, ◌≤◌, ◌⊎◌, inl, inr, sym, ◌∙◌, ap, arith}
 use Rattle.std.proofs.Math.Nat.{add-mod_right, mod-add-mod, mod-eq_of_lt, mod-lt, mod_self}
 use Rattle.std.proofs.lemmas.Bool.{cases_lt}
 use Rattle.tierra_model.specs.Ring.{forward, backward}
-
--- The candidates at distance d of a template of t cells are a, ahead, and b, behind.
-pub record Reaches (n ip t d a b : ℕ) : Type 0 where
-  pub ahead : a ≡ forward n ip (t + d)
-  pub behind : b ≡ backward n (ip + 1) (t + d)
+use Rattle.template_search.specs.Reaching.{Reaches}
 
 forward-next : (n p k a : ℕ) → a ≡ forward n p k → (a + 1) % n ≡ forward n p (k + 1)
 forward-next n p k a e =
@@ -47,3 +43,19 @@ reaches_next n ip t d a b next previous h l e f r =
       behind = before_same n previous (backward n (ip + 1) (t + d + 1)) l (mod-lt (ip + 1 + (n - (t + d + 1) % n)) h)
           (f ∙ r.behind ∙ sym (backward-next n (ip + 1) (t + d) h)) ∙ ap (backward n (ip + 1)) k;
     }
+
+-- and those k distances on, where neither side goes round
+pub reaches_straight : (n ip t d a b k : ℕ) → a + k < n → k ≤ b → b < n → Reaches n ip t d a b → Reaches n ip t (k + d) (a + k) (b - k)
+reaches_straight n ip t d a b zero h l m r =
+    let e : 0 + d ≡ d = omega arith in
+    let f : a + 0 ≡ a = omega arith in
+    let g : b - 0 ≡ b = omega arith in
+    rw (e, f, g) r
+reaches_straight n ip t d a b (suc k) h l m r =
+    let before = reaches_straight n ip t d a b k (omega arith) (omega arith) m r in
+    let e : suc k + d ≡ k + d + 1 = omega arith in
+    let same_next : a + suc k ≡ a + k + 1 = omega arith in
+    let same_previous : b - suc k + 1 ≡ b - k = omega arith in
+    let next : a + suc k ≡ (a + k + 1) % n = sym (ap (λ (x : ℕ). x % n) (sym same_next) ∙ mod-eq_of_lt h) in
+    let previous : (b - suc k + 1) % n ≡ b - k = ap (λ (x : ℕ). x % n) same_previous ∙ mod-eq_of_lt (omega arith) in
+    rw e (reaches_next n ip t (k + d) (a + k) (b - k) (a + suc k) (b - suc k) (omega arith) (omega arith) next previous before)

@@ -1,2 +1,4 @@
 pub mod Sides
 pub mod Places
+pub mod Openings
+pub mod Reaching

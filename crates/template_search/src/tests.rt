@@ -1,4 +1,4 @@
-//! Searches in a small soup that counts the looks.
+//! Searches in a small soup that counts the looks, and in one that lies in a row and does not.
 
 ghost use Rattle.std.specs.Prelude.{◌≡◌, ◌≤◌, ◌<◌, IfOk, length};
 
@@ -82,6 +82,72 @@ impl View for Flat {
     }
 }
 
+/// The cells of such a soup, of whose looks no account is kept.
+#[derive(Drop)]
+struct Plain {
+    cells: Vec<u8>,
+}
+
+impl Model for Plain {
+    ghost use Rattle.std.specs.Prelude.{List, ℕ, vec_len, ◌≤◌};
+
+    ghost Value = { List ℕ };
+
+    ghost view = { λ v. v.cells.items };
+
+    ghost invariant = { λ v. vec_len v.cells ≤ 1048576 };
+}
+
+impl View for Plain {
+    ghost use Rattle.std.specs.Prelude.{false, length, slice_index, slice_set};
+    ghost use Rattle.std.proofs.Common.{arith, get_or-set_other, length-set, refl};
+    ghost use Rattle.std.proofs.lemmas.Grind.{get_or-set_at};
+    ghost use Rattle.std.proofs.lemmas.Bool.Decides.{nat_tests};
+
+    ghost size = { λ v. length v };
+
+    ghost cells = { λ v p. slice_index v p };
+
+    ghost writable = { λ v p. false };
+
+    ghost looked = { λ v p. v };
+
+    ghost written = { λ v p x. slice_set v p x };
+
+    ghost look_keeps_size = { λ v p. refl };
+
+    ghost look_keeps_cells = { λ v p q. refl };
+
+    ghost look_keeps_writable = { λ v p q. refl };
+
+    ghost write_keeps_size = { λ v p x _ _ _. length-set v p x };
+
+    ghost write_sets_cell = { λ v p x q here _ _ there. Prim.grind
+        (arith, nat_tests, get_or-set_at, get_or-set_other) };
+
+    ghost write_keeps_writable = { λ v p x q _ _ _. refl };
+
+    fn size(&self) -> u32 {
+        self.cells.len() as u32
+    }
+
+    fn get(&mut self, at: u32) -> u8 {
+        self.cells[at as usize]
+    }
+
+    fn may_write(&self, at: u32) -> bool {
+        false
+    }
+
+    fn set(&mut self, at: u32, value: u8) {
+        unreachable!()
+    }
+
+    fn row(&self) -> Option<&[u8]> {
+        Some(self.cells.as_slice())
+    }
+}
+
 // so many cells of 08, which is no nop, but for those listed
 fn soup(alloc: Global, size: u32, nops: &[(u32, u8)]) -> Result<Flat, AllocError>
     requires { size ≤ 1048576 }
@@ -95,7 +161,7 @@ fn soup(alloc: Global, size: u32, nops: &[(u32, u8)]) -> Result<Flat, AllocError
     Ok(soup)
 }
 
-// what a search finds in such a soup, and after how many looks
+// what a search finds in such a soup, and after how many looks, where it finds the same in a row of the same cells
 fn find(
     alloc: Global,
     size: u32,
@@ -109,8 +175,12 @@ fn find(
     requires size { size ≤ 1048576 }
 {
     let mut soup = soup(alloc, size, nops)?;
+    let mut plain = Plain {
+        cells: soup.cells.clone()?,
+    };
     let found = search(&mut soup, ip, way, limit, min);
-    Ok((found, soup.looks))
+    let in_row = search(&mut plain, ip, way, limit, min);
+    Ok((found, if in_row == found { soup.looks } else { 0 }))
 }
 
 #[test]
@@ -222,6 +292,73 @@ fn goes_on_to_its_limit(rt: HostRuntime) -> Result<(), Fail> {
     assert_eq!(rt;
         find(alloc, 100, &[(1, 0)], 0, Way::Outward, 1048576, 1)?,
         (Found::NoMatch, 2097154)
+    );
+    Ok(())
+}
+
+// the same in 200 cells, from cell 100 on, with runs of nops: where, how many, and which
+fn find_in_runs(
+    alloc: Global,
+    runs: &[(u32, u32, u8)],
+    way: Way,
+    limit: u32,
+) -> Result<(Found, u64), AllocError> {
+    let mut nops = Vec::new(alloc);
+    for (start, count, nop) in runs {
+        for k in 0..*count {
+            nops.push((start.wrapping_add(k), *nop))?;
+        }
+    }
+    find(alloc, 200, &nops, 100, way, limit, 1)
+}
+
+#[test]
+fn compares_long_templates(rt: HostRuntime) -> Result<(), Fail> {
+    let alloc = rt.alloc();
+    let ten = &[(101, 10, 0), (120, 9, 1), (60, 10, 1)];
+    assert_eq!(rt;
+        find_in_runs(alloc, ten, Way::Outward, 90)?,
+        (Found::At(70), 171)
+    );
+    assert_eq!(rt;
+        find_in_runs(alloc, ten, Way::Forward, 90)?,
+        (Found::NoMatch, 145)
+    );
+    let nine = &[(101, 9, 0), (115, 8, 1), (70, 9, 1)];
+    assert_eq!(rt;
+        find_in_runs(alloc, nine, Way::Outward, 90)?,
+        (Found::At(79), 134)
+    );
+    let eight = &[(101, 8, 0), (115, 7, 1), (70, 8, 1)];
+    assert_eq!(rt;
+        find_in_runs(alloc, eight, Way::Outward, 90)?,
+        (Found::At(78), 118)
+    );
+    Ok(())
+}
+
+#[test]
+fn compares_short_templates(rt: HostRuntime) -> Result<(), Fail> {
+    let alloc = rt.alloc();
+    let three = &[
+        (101, 1, 0),
+        (102, 1, 1),
+        (103, 1, 0),
+        (130, 1, 1),
+        (131, 1, 0),
+        (132, 1, 1),
+    ];
+    assert_eq!(rt;
+        find_in_runs(alloc, three, Way::Outward, 90)?,
+        (Found::At(133), 59)
+    );
+    assert_eq!(rt;
+        find_in_runs(alloc, &[(101, 1, 1), (192, 1, 0)], Way::Forward, 90)?,
+        (Found::NoMatch, 92)
+    );
+    assert_eq!(rt;
+        find_in_runs(alloc, &[(101, 1, 1), (193, 1, 0)], Way::Outward, 95)?,
+        (Found::At(194), 185)
     );
     Ok(())
 }

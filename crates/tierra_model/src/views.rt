@@ -1,6 +1,6 @@
 //! A soup as one who looks at it and writes in it sees it, and a world as it is now.
 
-ghost use Rattle.std.specs.Prelude.{◌≡◌, ◌==◌, ℕ, ◌<◌, Bool, true, length, if◌then◌else◌, slice_index, slice_index_or};
+ghost use Rattle.std.specs.Prelude.{◌≡◌, ◌==◌, ℕ, ◌<◌, Bool, IfSome, true, length, if◌then◌else◌, slice_index, slice_index_or};
 
 use crate::creatures::{Block, Creature, Standing};
 
@@ -38,6 +38,15 @@ pub trait View {
         requires allowed { writable self.old at ≡ true }
         requires a_code { value < 32 }
         ensures { self.new ≡ written self.old at value };
+
+    /// All cells in a row, if they lie in one and a look at a cell leaves no trace.
+    fn row(&self) -> Option<&[u8]>
+        ensures len { IfSome result (λ row. length row.now ≡ size self.now) }
+        ensures held { IfSome result (λ row. (p : ℕ) → slice_index row.now p ≡ cells self.now p) }
+        ensures traceless { IfSome result (λ row. (p : ℕ) → looked self.now p ≡ self.now) }
+    {
+        None
+    }
 
     /// A look changes nothing that can be seen.
     ghost look_keeps_size: { (v : Self) (p : ℕ) → size (looked v p) ≡ size v };

@@ -15,7 +15,7 @@ use Rattle.turn_lock.specs.declared.view.Stage.TheVariants.{Idle}
 use Rattle.turn_lock.specs.Summaries.{entries_by, HasGrown}
 use Rattle.turn_lock.specs.Seats.{SeatFields, own_of, own_total, SpeaksForAll}
 use Rattle.turn_lock.specs.Views.{own_at, IsActive, IsHolding}
-use Rattle.turn_lock.specs.Rule.{NoneHolds, IsSound}
+use Rattle.turn_lock.specs.Rule.{NoneHolds, KeepsRule}
 use Rattle.turn_lock.specs.Mirrors.{seat_of}
 use Rattle.turn_lock.proofs.Places.{same_at}
 use Rattle.turn_lock.proofs.OwnCounts.{value_of, value_where, count_or_zero, sum-alike}
@@ -36,7 +36,7 @@ count_at (Some n) k there away = there n refl
 
 module _ {T : Type 0} (summary : T → Summary) (o : Summary) where
   closes : (id : ℕ) (table : TableId) (v : View) (words : List ℕ) (slots : List (Option T)) → v.stage ≡ Idle
-      → SpeaksForAll (seat_of table v) → Final (Seen (IsSound summary o) id v) words slots
+      → SpeaksForAll (seat_of table v) → Final (Seen (KeepsRule summary o) id v) words slots
       → (x : T) × (get_elem? slots 0 ≡ some (Some x)) × IsClosedBy (seat_of table v) (summary x)
   closes id table v words slots idle all (s, seen, same_words, deep, homes) =
       let r = seen.0 in
@@ -72,7 +72,7 @@ module _ {T : Type 0} (summary : T → Summary) (o : Summary) where
 
   pub closed : (id : ℕ) (table : TableId) (v : View) (seat : SeatFields) (words : List ℕ) (slots : List (Option T)) (y : Option T)
       → v.stage ≡ Idle → seat_of table v ≡ seat → SpeaksForAll seat
-      → Final (Seen (IsSound summary o) id v) words slots → get_elem? slots 0 ≡ some y → (x : T) × (y ≡ Some x) × IsClosedBy seat (summary x)
+      → Final (Seen (KeepsRule summary o) id v) words slots → get_elem? slots 0 ≡ some y → (x : T) × (y ≡ Some x) × IsClosedBy seat (summary x)
   closed id table v seat words slots y idle e all end there =
       let h = closes id table v words slots idle (subst SpeaksForAll (sym e) all) end in
       (h.0, some-injective y (Some h.0) (sym there ∙ h.1), subst (λ (s : SeatFields). IsClosedBy s (summary h.0)) e h.2)

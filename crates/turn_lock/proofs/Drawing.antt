@@ -12,7 +12,7 @@ use Rattle.turn_lock.specs.declared.view.View.{View}
 use Rattle.turn_lock.specs.declared.view.Stage.{Stage}
 use Rattle.turn_lock.specs.declared.view.Stage.TheVariants.{Idle}
 use Rattle.turn_lock.specs.Views.{most_tickets, left_of, ticket_count, HasTicket, IsActive, IsHolding, after_draw}
-use Rattle.turn_lock.specs.Rule.{SeatFits, IsSound}
+use Rattle.turn_lock.specs.Rule.{SeatFits, KeepsRule}
 use Rattle.turn_lock.specs.Steps.{TableSeat, DrawsTicket}
 use Rattle.turn_lock.proofs.Places.{put, put_here, put_else, inside, sum_at}
 use Rattle.turn_lock.proofs.OwnCounts.{count_some}
@@ -21,7 +21,7 @@ use Rattle.turn_lock.proofs.SeatsStay.{queue_stays, none_held, speaks_stays, eac
 
 module _ {T : Type 0} (summary : T → Summary) (o : Summary) where
   pub draws : (slots id : ℕ) (a : TableSeat T) → a.0.stage ≡ Idle → a.0.turns < most_tickets
-      → Allows (IsSound summary o) slots id a 0 (λ n. (n + 1) % 2 ^ 64) (DrawsTicket (step slots 0 1 0 none) a)
+      → Allows (KeepsRule summary o) slots id a 0 (λ n. (n + 1) % 2 ^ 64) (DrawsTicket (step slots 0 1 0 none) a)
   draws slots id a idle room s r deep at fit =
       let v : View = a.0 in
       let active : IsActive v.stage = subst IsActive (sym idle) tt in
@@ -35,7 +35,7 @@ module _ {T : Type 0} (summary : T → Summary) (o : Summary) where
       let fits : (t + 1) % 2 ^ 64 ≡ t + 1 = omega arith in
       let moved : sum_by left_of (set s.views id w) + v.left ≡ sum_by left_of s.views + (v.left - 1) = sum_at left_of s.views id v w at in
       let order = r.order in
-      let new : IsSound summary o record { words = (t + 1) ∷ r.serving ∷ r.counts; homes = s.homes; views = set s.views id w } = record {
+      let new : KeepsRule summary o record { words = (t + 1) ∷ r.serving ∷ r.counts; homes = s.homes; views = set s.views id w } = record {
         ticket = t + 1;
         serving = r.serving;
         counts = r.counts;
@@ -79,12 +79,12 @@ module _ {T : Type 0} (summary : T → Summary) (o : Summary) where
         at_home = λ free. r.at_home (none_held s.views id v w at (λ h. absurd (subst IsHolding idle h)) free);
       } in
       let Goal : List ℕ → Type 0 = λ ws. (w : View) × (x : Act (Option T)) × Valid s.homes a.1 x
-      × IsSound summary o (stepped (record { words = ws; homes = s.homes; views = s.views }) 0 ((get_or ws 0 0 + 1) % 2 ^ 64) id a.1 w x)
+      × KeepsRule summary o (stepped (record { words = ws; homes = s.homes; views = s.views }) 0 ((get_or ws 0 0 + 1) % 2 ^ 64) id a.1 w x)
       × DrawsTicket (step slots 0 1 0 none) a (get_or ws 0 0) (w, carried_after a.1 x) in
       subst Goal (sym r.words) (
         w,
         keeps,
         tt,
-        subst (λ (x : ℕ). IsSound summary o record { words = x ∷ r.serving ∷ r.counts; homes = s.homes; views = set s.views id w }) (sym fits) new,
+        subst (λ (x : ℕ). KeepsRule summary o record { words = x ∷ r.serving ∷ r.counts; homes = s.homes; views = set s.views id w }) (sym fits) new,
         refl,
       )

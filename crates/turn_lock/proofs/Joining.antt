@@ -11,13 +11,13 @@ use Rattle.turn_lock.specs.declared.view.View.{View}
 use Rattle.turn_lock.specs.declared.view.Stage.{Stage}
 use Rattle.turn_lock.specs.declared.view.Stage.TheVariants.{Idle}
 use Rattle.turn_lock.specs.Views.{own_at, left_of, ticket_count, HasTicket, IsActive, IsHolding, after_join, spent}
-use Rattle.turn_lock.specs.Rule.{SeatFits, Speaks, IsSound}
+use Rattle.turn_lock.specs.Rule.{SeatFits, Speaks, KeepsRule}
 use Rattle.turn_lock.proofs.Places.{put, put_here, put_else, inside, same_at, sum_at}
 use Rattle.turn_lock.proofs.OwnCounts.{or_from, or_left, or_same, length-merged, merged_from, merged_left, merged_right, count-merged}
 use Rattle.turn_lock.proofs.SeatsStay.{queue_stays, none_held, speaks_stays, each_seat_stays}
 
 module _ {T : Type 0} (summary : T → Summary) (o : Summary) where
-  pub joins : (id other : ℕ) (v w : View) → v.stage ≡ Idle → w.stage ≡ Idle → Joins (IsSound summary o) id v other w (after_join v w) spent
+  pub joins : (id other : ℕ) (v w : View) → v.stage ≡ Idle → w.stage ≡ Idle → Joins (KeepsRule summary o) id v other w (after_join v w) spent
   joins id other v w idle_v idle_w s r at apart there =
       let both : View = after_join v w in
       let views : List View = set s.views id both in

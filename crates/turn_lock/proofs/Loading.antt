@@ -13,7 +13,7 @@ use Rattle.turn_lock.specs.declared.view.View.{View}
 use Rattle.turn_lock.specs.declared.view.Stage.{Stage}
 use Rattle.turn_lock.specs.declared.view.Stage.TheVariants.{Spent, Idle, Waiting, Called, Holding}
 use Rattle.turn_lock.specs.Views.{ticket_count, ticket_of, counts_read, HasTicket, WaitsFor, IsActive, IsHolding, at_stage, after_call}
-use Rattle.turn_lock.specs.Rule.{StageFits, IsSound}
+use Rattle.turn_lock.specs.Rule.{StageFits, KeepsRule}
 use Rattle.turn_lock.specs.Steps.{TableSeat, LoadsServing, LoadsCount}
 use Rattle.turn_lock.proofs.Restaging.{restages}
 
@@ -63,7 +63,7 @@ called_fits ticket serving counts holder seat (Holding t read) h k = absurd h
 
 module _ {T : Type 0} (summary : T → Summary) (o : Summary) where
   pub loads_serving : (slots id : ℕ) (a : TableSeat T) → IsActive a.0.stage
-      → Allows (IsSound summary o) slots id a 1 (λ n. n) (LoadsServing (step slots 1 0 0 none) a)
+      → Allows (KeepsRule summary o) slots id a 1 (λ n. n) (LoadsServing (step slots 1 0 0 none) a)
   loads_serving slots id a active s r deep at fit =
       let v : View = a.0 in
       let n : ℕ = r.serving in
@@ -73,7 +73,7 @@ module _ {T : Type 0} (summary : T → Summary) (o : Summary) where
       let places = ok.places in
       let turns : v.turns ≤ 2 ^ 46 = omega arith in
       let Goal : List ℕ → Type 0 = λ ws. (w : View) × (x : Act (Option T)) × Valid s.homes a.1 x
-      × IsSound summary o (stepped (record { words = ws; homes = s.homes; views = s.views }) 1 (get_or ws 1 0) id a.1 w x)
+      × KeepsRule summary o (stepped (record { words = ws; homes = s.homes; views = s.views }) 1 (get_or ws 1 0) id a.1 w x)
       × LoadsServing (step slots 1 0 0 none) a (get_or ws 1 0) (w, carried_after a.1 x) in
       subst Goal (sym r.words) (dite (waits_or_not v.stage n)
       (λ waits. (
@@ -94,7 +94,7 @@ module _ {T : Type 0} (summary : T → Summary) (o : Summary) where
 
   pub loads_count : (slots id t word : ℕ) (counts : List ℕ) (a : TableSeat T) → a.0.stage ≡ Called t counts → length counts < 64
       → word ≡ length counts + 2
-      → Allows (IsSound summary o) slots id a word (λ n. n) (LoadsCount (step slots word 0 0 none) a)
+      → Allows (KeepsRule summary o) slots id a word (λ n. n) (LoadsCount (step slots word 0 0 none) a)
   loads_count slots id t word counts a called more is s r deep at fit =
       let v : View = a.0 in
       let active : IsActive v.stage = subst IsActive (sym called) tt in
@@ -111,12 +111,12 @@ module _ {T : Type 0} (summary : T → Summary) (o : Summary) where
       ap (λ (l : List ℕ). l ++ n ∷ []) mine.3 ∙ (sym (take-suc r.counts i 0 (omega arith)) ∙ ap (λ (k : ℕ). take k r.counts) (sym longer)) in
       let new = restages summary o s r id v stage at active tt (ap ticket_count (sym called)) (λ k h. subst (λ (z : Stage). HasTicket z k) called h) (λ h. subst IsHolding called h) (mine.0, mine.1, mine.2, present) in
       let Goal : List ℕ × ℕ → Type 0 = λ p. (w : View) × (x : Act (Option T)) × Valid s.homes a.1 x
-      × IsSound summary o (stepped (record { words = p.0; homes = s.homes; views = s.views }) p.1 (get_or p.0 p.1 0) id a.1 w x)
+      × KeepsRule summary o (stepped (record { words = p.0; homes = s.homes; views = s.views }) p.1 (get_or p.0 p.1 0) id a.1 w x)
       × LoadsCount (step slots p.1 0 0 none) a (get_or p.0 p.1 0) (w, carried_after a.1 x) in
       subst Goal (λ k. (sym r.words k, at_word k)) (
         at_stage v stage,
         keeps,
         tt,
-        subst (λ (cs : List ℕ). IsSound summary o record { words = r.ticket ∷ r.serving ∷ cs; homes = s.homes; views = set s.views id (at_stage v stage) }) (sym (set-get_or r.counts i 0)) new,
+        subst (λ (cs : List ℕ). KeepsRule summary o record { words = r.ticket ∷ r.serving ∷ cs; homes = s.homes; views = set s.views id (at_stage v stage) }) (sym (set-get_or r.counts i 0)) new,
         ap (λ (z : Stage). (at_stage v z, a.1)) (sym stage_is),
       )

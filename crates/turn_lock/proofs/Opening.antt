@@ -5,12 +5,12 @@ use Rattle.std.proofs.lemmas.Option.{none-some, same_Some}
 use Rattle.turn_lock.specs.declared.view.Summary.{Summary}
 use Rattle.turn_lock.specs.declared.view.View.{View}
 use Rattle.turn_lock.specs.Views.{own_at, first_view}
-use Rattle.turn_lock.specs.Rule.{SeatFits, IsSound}
+use Rattle.turn_lock.specs.Rule.{SeatFits, KeepsRule}
 use Rattle.turn_lock.proofs.Places.{one_at}
 use Rattle.turn_lock.proofs.OwnCounts.{blank, zeros, blank_none, zeros_zero}
 
 module _ {T : Type 0} (summary : T → Summary) where
-  starts : (words : List ℕ) (x : T) → words ≡ zeros 66 → IsSound summary (summary x) (opening words (Some x ∷ []) (first_view (summary x)))
+  starts : (words : List ℕ) (x : T) → words ≡ zeros 66 → KeepsRule summary (summary x) (opening words (Some x ∷ []) (first_view (summary x)))
   starts words x e =
       let o : Summary = summary x in
       let v : View = first_view o in
@@ -48,5 +48,5 @@ module _ {T : Type 0} (summary : T → Summary) where
       owns (suc i) n h = absurd (none-some n (sym (blank_none 63 i) ∙ h))
 
   pub opens : (words : List ℕ) (x y : T) (slots : List (Option T)) → y ≡ x → slots ≡ Some x ∷ [] → words ≡ zeros 66
-      → IsSound summary (summary y) (opening words slots (first_view (summary y)))
-  opens words x y slots same slot blank_words = subst (λ (p : T × List (Option T)). IsSound summary (summary p.0) (opening words p.1 (first_view (summary p.0)))) (λ k. (sym same k, sym slot k)) (starts words x blank_words)
+      → KeepsRule summary (summary y) (opening words slots (first_view (summary y)))
+  opens words x y slots same slot blank_words = subst (λ (p : T × List (Option T)). KeepsRule summary (summary p.0) (opening words p.1 (first_view (summary p.0)))) (λ k. (sym same k, sym slot k)) (starts words x blank_words)

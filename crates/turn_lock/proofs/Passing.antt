@@ -8,7 +8,7 @@ use Rattle.turn_lock.specs.declared.view.Stage.{Stage}
 use Rattle.turn_lock.specs.declared.view.Stage.TheVariants.{Holding}
 use Rattle.turn_lock.specs.Summaries.{HasGrown}
 use Rattle.turn_lock.specs.Views.{left_of, ticket_count, HasTicket, IsActive, after_pass}
-use Rattle.turn_lock.specs.Rule.{StageFits, SeatFits, IsSound}
+use Rattle.turn_lock.specs.Rule.{StageFits, SeatFits, KeepsRule}
 use Rattle.turn_lock.specs.Steps.{TableSeat, PassesOn}
 use Rattle.turn_lock.proofs.Places.{sum_at, set_one}
 use Rattle.turn_lock.proofs.Stages.{fits_after_pass}
@@ -17,7 +17,7 @@ use Rattle.turn_lock.proofs.SeatsStay.{queue_stays, speaks_stays, each_seat_stay
 module _ {T : Type 0} (summary : T → Summary) (o : Summary) where
   pub passes_on : (slots id t : ℕ) (counts : List ℕ) (x : T) (a : TableSeat T) → slots ≡ 1 → a.0.stage ≡ Holding t counts
       → a.1 ≡ (0, Some x) ∷ [] → HasGrown a.0.opening counts (summary x)
-      → Allows (IsSound summary o) slots id a 1 (λ n. (n + 1) % 2 ^ 64) (PassesOn (step slots 1 1 0 none) a)
+      → Allows (KeepsRule summary o) slots id a 1 (λ n. (n + 1) % 2 ^ 64) (PassesOn (step slots 1 1 0 none) a)
   passes_on slots id t counts x a one holding carried value s r deep at fit =
       let v : View = a.0 in
       let active : IsActive v.stage = subst IsActive (sym holding) tt in
@@ -33,7 +33,7 @@ module _ {T : Type 0} (summary : T → Summary) (o : Summary) where
       let fits : (served + 1) % 2 ^ 64 ≡ served + 1 = omega arith in
       let back : homes_after s.homes a.1 gives ≡ some (Some x) ∷ [] = ap (λ (c : List (ℕ × Option T)). put_back s.homes c) carried ∙ set_one s.homes (some (Some x)) (deep ∙ one) in
       let home : HasGrown o r.counts (summary x) = subst (λ (p : Summary × List ℕ). HasGrown p.0 p.1 (summary x)) (λ k. (ok.opening k, mine.3 k)) value in
-      let new : IsSound summary o record { words = r.ticket ∷ (served + 1) ∷ r.counts; homes = homes_after s.homes a.1 gives; views = set s.views id w } = record {
+      let new : KeepsRule summary o record { words = r.ticket ∷ (served + 1) ∷ r.counts; homes = homes_after s.homes a.1 gives; views = set s.views id w } = record {
         ticket = r.ticket;
         serving = served + 1;
         counts = r.counts;
@@ -74,12 +74,12 @@ module _ {T : Type 0} (summary : T → Summary) (o : Summary) where
         at_home = λ _. (x, back, home);
       } in
       let Goal : List ℕ → Type 0 = λ ws. (w : View) × (y : Act (Option T)) × Valid s.homes a.1 y
-      × IsSound summary o (stepped (record { words = ws; homes = s.homes; views = s.views }) 1 ((get_or ws 1 0 + 1) % 2 ^ 64) id a.1 w y)
+      × KeepsRule summary o (stepped (record { words = ws; homes = s.homes; views = s.views }) 1 ((get_or ws 1 0 + 1) % 2 ^ 64) id a.1 w y)
       × PassesOn (step slots 1 1 0 none) a (get_or ws 1 0) (w, carried_after a.1 y) in
       subst Goal (sym r.words) (
         w,
         gives,
         tt,
-        subst (λ (z : ℕ). IsSound summary o record { words = r.ticket ∷ z ∷ r.counts; homes = homes_after s.homes a.1 gives; views = set s.views id w }) (sym fits) new,
+        subst (λ (z : ℕ). KeepsRule summary o record { words = r.ticket ∷ z ∷ r.counts; homes = homes_after s.homes a.1 gives; views = set s.views id w }) (sym fits) new,
         refl,
       )

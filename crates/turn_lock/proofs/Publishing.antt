@@ -13,7 +13,7 @@ use Rattle.turn_lock.specs.declared.view.View.{View}
 use Rattle.turn_lock.specs.declared.view.Stage.{Stage}
 use Rattle.turn_lock.specs.declared.view.Stage.TheVariants.{Holding}
 use Rattle.turn_lock.specs.Views.{left_of, ticket_count, ticket_of, counts_read, HasTicket, IsActive, after_publish}
-use Rattle.turn_lock.specs.Rule.{StageFits, SeatFits, IsSound}
+use Rattle.turn_lock.specs.Rule.{StageFits, SeatFits, KeepsRule}
 use Rattle.turn_lock.specs.Steps.{TableSeat, Publishes}
 use Rattle.turn_lock.proofs.Places.{inside, sum_at, sum_set}
 use Rattle.turn_lock.proofs.OwnCounts.{count-set}
@@ -23,7 +23,7 @@ use Rattle.turn_lock.proofs.SeatsStay.{queue_stays, speaks_stays, each_seat_stay
 module _ {T : Type 0} (summary : T → Summary) (o : Summary) where
   pub publishes : (slots id t word growth : ℕ) (counts : List ℕ) (a : TableSeat T) → a.0.stage ≡ Holding t counts → word ≡ a.0.place + 2
       → a.0.opening.committed + sum counts + growth < 2 ^ 64
-      → Allows (IsSound summary o) slots id a word (λ n. (n + growth) % 2 ^ 64) (Publishes (step slots word growth 0 none) a)
+      → Allows (KeepsRule summary o) slots id a word (λ n. (n + growth) % 2 ^ 64) (Publishes (step slots word growth 0 none) a)
   publishes slots id t word growth counts a holding is room s r deep at fit =
       let v : View = a.0 in
       let active : IsActive v.stage = subst IsActive (sym holding) tt in
@@ -49,7 +49,7 @@ module _ {T : Type 0} (summary : T → Summary) (o : Summary) where
       (sym (holding ∙ ap (λ (l : List ℕ). Holding t l) mine.3)) in
       let id_is : r.holder r.serving ≡ id = ap r.holder (sym mine.0) ∙ mine.2 in
       let own_inside : c < length v.own = let h = ok.places in omega arith in
-      let new : IsSound summary o record { words = r.ticket ∷ r.serving ∷ cs; homes = s.homes; views = set s.views id w } = record {
+      let new : KeepsRule summary o record { words = r.ticket ∷ r.serving ∷ cs; homes = s.homes; views = set s.views id w } = record {
         ticket = r.ticket;
         serving = r.serving;
         counts = cs;
@@ -103,12 +103,12 @@ module _ {T : Type 0} (summary : T → Summary) (o : Summary) where
       } in
       let at_word : suc (suc c) ≡ word = omega arith in
       let Goal : List ℕ × ℕ → Type 0 = λ p. (w : View) × (x : Act (Option T)) × Valid s.homes a.1 x
-      × IsSound summary o (stepped (record { words = p.0; homes = s.homes; views = s.views }) p.1 ((get_or p.0 p.1 0 + growth) % 2 ^ 64) id a.1 w x)
+      × KeepsRule summary o (stepped (record { words = p.0; homes = s.homes; views = s.views }) p.1 ((get_or p.0 p.1 0 + growth) % 2 ^ 64) id a.1 w x)
       × Publishes (step slots p.1 growth 0 none) a (get_or p.0 p.1 0) (w, carried_after a.1 x) in
       subst Goal (λ k. (sym r.words k, at_word k)) (
         w,
         keeps,
         tt,
-        subst (λ (z : ℕ). IsSound summary o record { words = r.ticket ∷ r.serving ∷ set r.counts c z; homes = s.homes; views = set s.views id w }) (sym fits) new,
+        subst (λ (z : ℕ). KeepsRule summary o record { words = r.ticket ∷ r.serving ∷ set r.counts c z; homes = s.homes; views = set s.views id w }) (sym fits) new,
         ap (λ (z : View). (z, a.1)) w_is,
       )

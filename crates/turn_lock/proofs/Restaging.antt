@@ -9,7 +9,7 @@ use Rattle.turn_lock.specs.declared.view.View.{View}
 use Rattle.turn_lock.specs.declared.view.Stage.{Stage}
 use Rattle.turn_lock.specs.Summaries.{HasGrown}
 use Rattle.turn_lock.specs.Views.{left_of, ticket_count, HasTicket, IsActive, IsHolding, at_stage}
-use Rattle.turn_lock.specs.Rule.{StageFits, SeatFits, NoneHolds, IsSound}
+use Rattle.turn_lock.specs.Rule.{StageFits, SeatFits, NoneHolds, KeepsRule}
 use Rattle.turn_lock.proofs.Places.{sum_at}
 use Rattle.turn_lock.proofs.SeatsStay.{queue_stays, none_held, speaks_stays, each_seat_stays}
 
@@ -18,11 +18,11 @@ module _ {T : Type 0} (summary : T → Summary) (o : Summary) where
   abbrev pub IsHome : List (maybe.Option (Option T)) → List ℕ → Type 0
   IsHome homes counts = (x : T) × (homes ≡ some (Some x) ∷ []) × HasGrown o counts (summary x)
 
-  pub restages_with : (s : State (Option T) View) (r : IsSound summary o s) (id : ℕ) (v : View) (stage : Stage) (homes' : List (maybe.Option (Option T)))
+  pub restages_with : (s : State (Option T) View) (r : KeepsRule summary o s) (id : ℕ) (v : View) (stage : Stage) (homes' : List (maybe.Option (Option T)))
       → get_elem? s.views id ≡ some v → IsActive v.stage → IsActive stage → ticket_count stage ≡ ticket_count v.stage
       → ((n : ℕ) → HasTicket v.stage n → HasTicket stage n) → StageFits r.ticket r.serving r.counts r.holder id stage
       → (NoneHolds (set s.views id (at_stage v stage)) → IsHome homes' r.counts)
-      → IsSound summary o record { words = r.ticket ∷ r.serving ∷ r.counts; homes = homes'; views = set s.views id (at_stage v stage) }
+      → KeepsRule summary o record { words = r.ticket ∷ r.serving ∷ r.counts; homes = homes'; views = set s.views id (at_stage v stage) }
   restages_with s r id v stage homes' at active stays_active as_many has fits home =
       let ok = r.each_seat id v at active in
       let w : View = at_stage v stage in record {
@@ -57,10 +57,10 @@ module _ {T : Type 0} (summary : T → Summary) (o : Summary) where
       }
 
   -- the slot stays as it is
-  pub restages : (s : State (Option T) View) (r : IsSound summary o s) (id : ℕ) (v : View) (stage : Stage)
+  pub restages : (s : State (Option T) View) (r : KeepsRule summary o s) (id : ℕ) (v : View) (stage : Stage)
       → get_elem? s.views id ≡ some v → IsActive v.stage → IsActive stage → ticket_count stage ≡ ticket_count v.stage
       → ((n : ℕ) → HasTicket v.stage n → HasTicket stage n) → (IsHolding v.stage → IsHolding stage)
       → StageFits r.ticket r.serving r.counts r.holder id stage
-      → IsSound summary o record { words = r.ticket ∷ r.serving ∷ r.counts; homes = s.homes; views = set s.views id (at_stage v stage) }
+      → KeepsRule summary o record { words = r.ticket ∷ r.serving ∷ r.counts; homes = s.homes; views = set s.views id (at_stage v stage) }
   restages s r id v stage at active stays_active as_many has holds fits =
       restages_with s r id v stage s.homes at active stays_active as_many has fits (λ free. r.at_home (none_held s.views id v (at_stage v stage) at holds free))

@@ -12,7 +12,7 @@ use Rattle.turn_lock.specs.declared.view.View.{View}
 use Rattle.turn_lock.specs.Summaries.{Commits, HasGrown}
 use Rattle.turn_lock.specs.Seats.{SeatFields, TurnFields, own_of}
 use Rattle.turn_lock.specs.Views.{ticket_of, counts_read, grown_counts, after_publish, after_pass}
-use Rattle.turn_lock.specs.Rule.{IsSound}
+use Rattle.turn_lock.specs.Rule.{KeepsRule}
 use Rattle.turn_lock.specs.Steps.{TableSeat, Publishes, PassesOn}
 use Rattle.turn_lock.specs.Mirrors.{seat_of, MirrorsSeat, MirrorsTurn}
 use Rattle.turn_lock.proofs.Places.{sum_set}
@@ -149,7 +149,7 @@ module _ {T : Type 0} (a : TableSeat T) (caller turns committed : ℕ) (own : Li
 
   pub publish_allowed : (summary : T → Summary) (o : Summary) (slots id word : ℕ) (b : TableSeat T) → b.0 ≡ a.0 → word ≡ caller - 1 + 2
       → x.committed < 2 ^ 64
-      → Allows (IsSound summary o) slots id b word (λ n. (n + growth) % 2 ^ 64) (Publishes (step slots word growth 0 none) b)
+      → Allows (KeepsRule summary o) slots id b word (λ n. (n + growth) % 2 ^ 64) (Publishes (step slots word growth 0 none) b)
   publish_allowed summary o slots id word b e is low =
       let place = place_is in
       let same : b.0.place ≡ a.0.place = ap (λ (v : View). v.place) e in
@@ -163,7 +163,7 @@ module _ {T : Type 0} (a : TableSeat T) (caller turns committed : ℕ) (own : Li
 
   pub pass_allowed : (summary : T → Summary) (o : Summary) (z : T) (slots id : ℕ) (b d : TableSeat T) → summary z ≡ x → slots ≡ 1
       → b ≡ (a.0, (0, Some z) ∷ rest a.1) → d ≡ (after_publish b.0 growth, b.1)
-      → Allows (IsSound summary o) slots id d 1 (λ n. (n + 1) % 2 ^ 64) (PassesOn (step slots 1 1 0 none) d)
+      → Allows (KeepsRule summary o) slots id d 1 (λ n. (n + 1) % 2 ^ 64) (PassesOn (step slots 1 1 0 none) d)
   pass_allowed summary o z slots id b d is one hb hd =
       let now = published_seat z b d hb hd in
       passes_on summary o slots id (ticket_of a.0.stage) (grown_counts a.0 growth) z d one (ap (λ (u : TableSeat T). u.0.stage) now) (ap (λ (u : TableSeat T). u.1) now)

@@ -13,7 +13,7 @@ use Rattle.turn_lock.specs.declared.view.Summary.{Summary}
 use Rattle.turn_lock.specs.declared.view.View.{View}
 use Rattle.turn_lock.specs.Seats.{only}
 use Rattle.turn_lock.specs.Views.{own_at, left_of, IsActive, last_of, after_split, new_view}
-use Rattle.turn_lock.specs.Rule.{SeatFits, Speaks, IsSound}
+use Rattle.turn_lock.specs.Rule.{SeatFits, Speaks, KeepsRule}
 use Rattle.turn_lock.proofs.Places.{put, put_here, put_else, sum_at, snoc_at}
 use Rattle.turn_lock.proofs.OwnCounts.{has, blank, blank_none, only_one}
 use Rattle.turn_lock.proofs.SeatsStay.{queue_stays, none_held, speaks_stays, each_seat_stays}
@@ -27,7 +27,7 @@ count-only i room =
 
 module _ {T : Type 0} (summary : T → Summary) (o : Summary) where
   pub splits : (id n : ℕ) (v : View) → IsActive v.stage → own_at v 0 ≡ Some n → last_of v < 64
-      → Splits (IsSound summary o) id v (after_split v) (new_view v)
+      → Splits (KeepsRule summary o) id v (after_split v) (new_view v)
   splits id n v active first room s r at =
       let ok = r.each_seat id v at active in
       let last_is : last_of v ≡ r.last = ap (λ (z : Option ℕ). unwrap_or z 0) (ok.holds_last n first) in

@@ -12,7 +12,7 @@ use Rattle.turn_lock.specs.declared.view.Stage.{Stage}
 use Rattle.turn_lock.specs.declared.view.Stage.TheVariants.{Called, Holding}
 use Rattle.turn_lock.specs.Summaries.{HasGrown}
 use Rattle.turn_lock.specs.Views.{ticket_count, ticket_of, counts_read, HasTicket, IsActive, IsHolding, at_stage}
-use Rattle.turn_lock.specs.Rule.{StageFits, NoneHolds, IsSound}
+use Rattle.turn_lock.specs.Rule.{StageFits, NoneHolds, KeepsRule}
 use Rattle.turn_lock.specs.Steps.{TableSeat, TakesSlot}
 use Rattle.turn_lock.proofs.Places.{inside, same_at}
 use Rattle.turn_lock.proofs.Stages.{active_holding, holding_served}
@@ -20,7 +20,7 @@ use Rattle.turn_lock.proofs.Restaging.{restages_with}
 
 module _ {T : Type 0} (summary : T → Summary) (o : Summary) where
   pub takes_slot : (slots id t : ℕ) (counts : List ℕ) (a : TableSeat T) → a.0.stage ≡ Called t counts → length counts ≡ 64
-      → Allows (IsSound summary o) slots id a 1 (λ n. n) (TakesSlot summary (step slots 1 0 0 none) a)
+      → Allows (KeepsRule summary o) slots id a 1 (λ n. n) (TakesSlot summary (step slots 1 0 0 none) a)
   takes_slot slots id t counts a called all s r deep at fit =
       let v : View = a.0 in
       let active : IsActive v.stage = subst IsActive (sym called) tt in
@@ -41,7 +41,7 @@ module _ {T : Type 0} (summary : T → Summary) (o : Summary) where
       (λ none_holds. absurd (none_holds id w (set_here s.views id w (inside s.views id v at)) tt)) in
       let seen : v.seen ≤ (summary x).committed = let a = ok.seen in let b = home.2.committed in omega arith in
       let Goal : List ℕ → Type 0 = λ ws. (w : View) × (y : Act (Option T)) × Valid s.homes a.1 y
-      × IsSound summary o (stepped (record { words = ws; homes = s.homes; views = s.views }) 1 (get_or ws 1 0) id a.1 w y)
+      × KeepsRule summary o (stepped (record { words = ws; homes = s.homes; views = s.views }) 1 (get_or ws 1 0) id a.1 w y)
       × TakesSlot summary (step slots 1 0 0 none) a (get_or ws 1 0) (w, carried_after a.1 y) in
       subst Goal (sym r.words) (
         w,

@@ -54,9 +54,9 @@ pub struct LockRule;
 impl<T: Kept> TableRule<Option<T>, View, Snapshot<T>> for LockRule {
     ghost use Rattle.turn_lock.specs.Summaries.{summary_of};
     ghost use Rattle.turn_lock.specs.Views.{first_view};
-    ghost use Rattle.turn_lock.specs.Rule.{IsSound};
+    ghost use Rattle.turn_lock.specs.Rule.{KeepsRule};
 
-    ghost holds = { λ key. IsSound (summary_of T.setup T.committed T.entries)
+    ghost holds = { λ key. KeepsRule (summary_of T.setup T.committed T.entries)
         (summary_of T.setup T.committed T.entries key.value) };
 
     ghost first = { λ key. first_view (summary_of T.setup T.committed T.entries key.value) };

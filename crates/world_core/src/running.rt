@@ -308,6 +308,13 @@ impl Running {
         self.soup.get(at)
     }
 
+    /// All cells of the soup.
+    pub fn row(&self) -> &[u8]
+        ensures { result.now ≡ self.now.world.soup }
+    {
+        self.soup.row()
+    }
+
     /// The creature whose turn it is.
     pub fn front(&self) -> &Creature
         requires { IsRunning self.now.world }

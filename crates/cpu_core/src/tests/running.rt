@@ -1,7 +1,7 @@
 //! Runs of a few instructions.
 
 ghost use Rattle.std.specs.Prelude.{◌≡◌, ◌<◌, ◌+◌};
-ghost use Rattle.cpu_core.specs.Executing.{IsReady};
+ghost use Rattle.cpu_core.specs.Executing.{CanExecute};
 
 use crate::step;
 use crate::tests::soup::Flat;
@@ -109,7 +109,7 @@ fn run_over<V: View, L: Ledger>(
     requires name { blank.name ≡ L.name }
     requires parts { blank.parts ≡ L.parts }
     requires some { 0 < L.parts }
-    requires ready { IsReady V.size V.cells V.writable settings.now creature.old soup.old }
+    requires ready { CanExecute V.size V.cells V.writable settings.now creature.old soup.old }
     requires moved { creature.old.moved < 1000 }
     requires errors { creature.old.errors < 1000 }
     requires ran { creature.old.ran < 1000 }

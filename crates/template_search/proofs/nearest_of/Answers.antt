@@ -1,17 +1,17 @@
-use Rattle.std.proofs.Common.{arith, rules}
-use Rattle.template_search.proofs.Distances.{search_finds, search_goes_on}
-use Rattle.template_search.proofs.Reaching.{reaches_next}
+use Rattle.std.proofs.Common.{arith, length, rules}
+use Rattle.template_search.specs.Reaching.{Reaches}
+use Rattle.template_search.proofs.Distances.{found_far, found_near}
+use Rattle.template_search.proofs.Reaching.{reaches_straight}
 use Rattle.template_search.proofs.nearest_of.Goals as goal
 
 pub returns-in-Some-clause-passes : goal.returns-in-Some-clause-passes
-returns-in-Some-clause-passes g c =
-    search_finds _ _ _ _ _ _ _ _ c.loop.counter _ _ _ _ _ (omega arith) c.loop.invariant.places c.in-Some.ensures.passes c.loop.invariant.tried
+returns-in-Some-clause-passes g c = found_near _ _ _ _ _ _ _ _ c.straight_distances-straight.ensures.limit _ _ _ c.in-Some.ensures.passes
 
-pub loop-preserved : goal.loop-preserved
-loop-preserved g c = record {
-  size = search rules;
-  ahead = omega arith;
-  behind = omega arith;
-  places = reaches_next _ _ _ _ _ _ _ _ (omega arith) c.previous_place-behind.ensures.below c.next_place-ahead.ensures.next c.previous_place-behind.ensures.previous c.loop.invariant.places;
-  tried = search_goes_on _ _ _ _ _ _ _ _ c.loop.counter _ _ _ _ (omega arith) c.loop.invariant.places c.in_default.ensures.passes c.loop.invariant.tried;
-}
+pub nearest_round-requires-clause-places : goal.nearest_round-requires-clause-places
+nearest_round-requires-clause-places g c =
+    let nearest : Reaches c.args.size c.args.ip (length c.args.nops.now) 1 c.place_at-ahead.result c.place_at-behind.result = search rules in
+    reaches_straight _ _ _ 1 _ _ c.straight_distances-straight.result (omega arith) (omega arith) (omega arith) nearest
+
+pub returns-clause-passes : goal.returns-clause-passes
+returns-clause-passes g c =
+    found_far _ _ _ _ _ _ _ _ c.straight_distances-straight.ensures.limit _ _ _ _ c.in_default.ensures.passes c.nearest_round.ensures.passes

@@ -1,5 +1,5 @@
 use Rattle.std.proofs.Common.{◌≡◌, ◌≤◌}
-use Rattle.crew.specs.Hands.{IsReady}
+use Rattle.crew.specs.Hands.{IsUnhalted}
 use Rattle.crew.proofs.finish.finish.Given as goal
 
 abbrev pub invariant-loop : goal.invariant-loop
@@ -7,7 +7,7 @@ invariant-loop g l = record {
   setup : l.book.setup ≡ l.fn.book.setup;
   quanta : l.book.quanta ≡ l.fn.book.quanta;
   more : l.counter ≤ l.book.committed;
-  ready : IsReady (l.book.setup, l.book.quanta) (g.H.Hand.setup l.hand) (g.H.Hand.quanta l.hand) (g.H.Hand.done l.hand) (g.H.Hand.halts l.hand)
+  ready : IsUnhalted (l.book.setup, l.book.quanta) (g.H.Hand.setup l.hand) (g.H.Hand.quanta l.hand) (g.H.Hand.done l.hand) (g.H.Hand.halts l.hand)
       (g.H.Hand.can_put l.hand);
   hand_setup : g.H.Hand.setup l.hand ≡ g.H.Hand.setup l.fn.hand;
   hand_quanta : g.H.Hand.quanta l.hand ≡ g.H.Hand.quanta l.fn.hand;

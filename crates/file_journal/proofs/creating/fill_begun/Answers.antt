@@ -1,5 +1,5 @@
 use Rattle.std.proofs.Common.{◌≡◌, ◌≤◌, ◌∙◌, ap, subst, List, ℕ, drop, length}
-use Rattle.file_journal.specs.Creating.{IsReady}
+use Rattle.file_journal.specs.Creating.{LacksFirstByte}
 use Rattle.file_journal.specs.Files.{IsBegun, IsFresh}
 use Rattle.file_journal.specs.Steps.{Becomes, IsWritten}
 use Rattle.file_journal.proofs.Making.{begun_torn, begun_written, behind_title, header_behind_title}
@@ -16,9 +16,9 @@ returns-clause-ready g c =
     let h = c.args.header.now in
     let len = c.parts_len.ensures.title in
     let piece : c.after.result.now ≡ behind_title h len = c.after.ensures ∙ ap (drop 12) c.requires.bytes ∙ header_behind_title h len in
-    on_ok c.put.result (IsWritten old 12 c.after.result.now new) (Becomes old new (λ file. IsReady h))
+    on_ok c.put.result (IsWritten old 12 c.after.result.now new) (Becomes old new (λ file. LacksFirstByte h))
     (λ w.
-    becomes old new 12 (behind_title h len) (IsLong h.title) (λ file. IsReady h) c.requires.begun
+    becomes old new 12 (behind_title h len) (IsLong h.title) (λ file. LacksFirstByte h) c.requires.begun
     (λ f p. begun_written h len f p.0 p.1)
     (subst (λ (p : List ℕ). IsWritten old 12 p new) piece w)) c.put.ensures.written
 

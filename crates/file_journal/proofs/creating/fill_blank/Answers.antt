@@ -1,5 +1,5 @@
 use Rattle.std.proofs.Common.{◌≡◌, ◌∙◌, ap, subst, List, ℕ, drop}
-use Rattle.file_journal.specs.Creating.{IsBlank, IsReady}
+use Rattle.file_journal.specs.Creating.{IsBlank, LacksFirstByte}
 use Rattle.file_journal.specs.Steps.{Becomes, IsWritten}
 use Rattle.file_journal.proofs.Making.{behind_first, blank_written, header_behind_first}
 use Rattle.file_journal.proofs.Times.{becomes, on_ok}
@@ -12,8 +12,8 @@ returns-clause-ready g c =
     let h = c.args.header.now in
     let len = c.parts_len.ensures.title in
     let piece : c.after.result.now ≡ behind_first h len = c.after.ensures ∙ ap (drop 1) c.requires.bytes ∙ header_behind_first h len in
-    on_ok c.put.result (IsWritten old 1 c.after.result.now new) (Becomes old new (λ file. IsReady h))
+    on_ok c.put.result (IsWritten old 1 c.after.result.now new) (Becomes old new (λ file. LacksFirstByte h))
     (λ w.
-    becomes old new 1 (behind_first h len) IsBlank (λ file. IsReady h) c.requires.blank
+    becomes old new 1 (behind_first h len) IsBlank (λ file. LacksFirstByte h) c.requires.blank
     (λ f blank. blank_written h len f c.requires.title blank)
     (subst (λ (p : List ℕ). IsWritten old 1 p new) piece w)) c.put.ensures.written

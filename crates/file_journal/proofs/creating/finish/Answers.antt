@@ -1,5 +1,5 @@
 use Rattle.std.proofs.Common.{◌≡◌, ◌∙◌, ap, subst, List, ℕ, [], ◌∷◌, length, take}
-use Rattle.file_journal.specs.Creating.{IsMade, IsMaking, IsReady}
+use Rattle.file_journal.specs.Creating.{IsMade, IsMaking, LacksFirstByte}
 use Rattle.file_journal.specs.Steps.{Becomes, IsWritten}
 use Rattle.desk_io.specs.Desk.{IsDiskCall, Torn}
 use Rattle.file_journal.specs.Steps.{IfTold}
@@ -16,7 +16,7 @@ returns-clause-made g c =
     let piece : c.first.result.now ≡ first h len ∷ [] = c.first.ensures ∙ ap (take 1) c.requires.bytes ∙ header_first h len in
     on_ok c.put.result (IsWritten old 0 c.first.result.now new) (Becomes old new (λ file. IsMade h))
     (λ w.
-    becomes old new 0 (first h len ∷ []) (IsReady h) (λ file. IsMade h) c.requires.ready (first_written h len)
+    becomes old new 0 (first h len ∷ []) (LacksFirstByte h) (λ file. IsMade h) c.requires.ready (first_written h len)
     (subst (λ (p : List ℕ). IsWritten old 0 p new) piece w)) c.put.ensures.written
 
 pub returns-clause-call : goal.returns-clause-call
@@ -26,5 +26,5 @@ returns-clause-call g c =
     let h = c.args.header.now in
     let len = c.parts_len.ensures.title in
     let piece : c.first.result.now ≡ first h len ∷ [] = c.first.ensures ∙ ap (take 1) c.requires.bytes ∙ header_first h len in
-    torn_have old new 0 1 (IsReady h) (λ file. IsMaking h) (first_torn h len) c.requires.ready
+    torn_have old new 0 1 (LacksFirstByte h) (λ file. IsMaking h) (first_torn h len) c.requires.ready
     (subst (λ (p : List ℕ). IsDiskCall old new c.put.result (IfTold old (Torn 0 (length p)))) piece c.put.ensures.call)

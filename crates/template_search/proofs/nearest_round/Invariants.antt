@@ -1,8 +1,8 @@
 -- The candidates nearer than the two places do not match, and the rest is tried from them on.
 use Rattle.std.proofs.Common.{◌≡◌, ◌<◌, ◌+◌, length}
 use Rattle.template_search.proofs.Distances.{SearchesOn}
-use Rattle.template_search.proofs.Reaching.{Reaches}
-use Rattle.template_search.proofs.nearest_of.Given as goal
+use Rattle.template_search.specs.Reaching.{Reaches}
+use Rattle.template_search.proofs.nearest_round.Given as goal
 
 abbrev pub invariant-loop : goal.invariant-loop
 invariant-loop g l =
@@ -11,5 +11,5 @@ invariant-loop g l =
       ahead : l.ahead < l.size;
       behind : l.behind < l.size;
       places : Reaches l.size l.ip (length l.nops) (l.counter + 1) l.ahead l.behind;
-      tried : SearchesOn g.V.View.cells g.V.View.looked l.size l.ip l.way l.limit l.nops l.fn.view l.counter l.view;
+      tried : SearchesOn g.V.View.cells g.V.View.looked l.size l.ip l.way l.tried l.limit l.nops l.fn.view l.counter l.view;
     }
