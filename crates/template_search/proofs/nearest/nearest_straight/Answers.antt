@@ -1,7 +1,7 @@
 use Rattle.std.proofs.Common.{◌≡◌, ◌-◌, arith, rules}
 use Rattle.template_search.proofs.Distances.{search_finds, search_goes_on}
 use Rattle.template_search.proofs.Reaching.{reaches_straight}
-use Rattle.template_search.proofs.nearest_straight.Goals as goal
+use Rattle.template_search.proofs.nearest.nearest_straight.Goals as goal
 
 pub returns-in-Some-clause-passes : goal.returns-in-Some-clause-passes
 returns-in-Some-clause-passes g c =

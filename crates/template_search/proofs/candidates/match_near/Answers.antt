@@ -1,5 +1,5 @@
 use Rattle.template_search.proofs.Trying.{first_of_two, second_of_two}
-use Rattle.template_search.proofs.match_near.Goals as goal
+use Rattle.template_search.proofs.candidates.match_near.Goals as goal
 
 pub returns-in-Some-clause-passes : goal.returns-in-Some-clause-passes
 returns-in-Some-clause-passes g c = rw c.in-Outward.is (first_of_two _ _ _ _ _ _ _ _ _ c.in-Some.ensures.passes)

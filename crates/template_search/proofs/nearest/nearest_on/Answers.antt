@@ -2,14 +2,14 @@ use Rattle.std.proofs.Common.{arith, length, rules}
 use Rattle.template_search.specs.Reaching.{Reaches}
 use Rattle.template_search.proofs.Distances.{found_far, found_near}
 use Rattle.template_search.proofs.Reaching.{reaches_straight}
-use Rattle.template_search.proofs.nearest_of.Goals as goal
+use Rattle.template_search.proofs.nearest.nearest_on.Goals as goal
 
 pub returns-in-Some-clause-passes : goal.returns-in-Some-clause-passes
 returns-in-Some-clause-passes g c = found_near _ _ _ _ _ _ _ _ c.straight_distances-straight.ensures.limit _ _ _ c.in-Some.ensures.passes
 
 pub nearest_round-requires-clause-places : goal.nearest_round-requires-clause-places
 nearest_round-requires-clause-places g c =
-    let nearest : Reaches c.args.size c.args.ip (length c.args.nops.now) 1 c.place_at-ahead.result c.place_at-behind.result = search rules in
+    let nearest : Reaches c.args.course.size c.args.course.ip (length c.args.nops.now) 1 c.place_at-ahead.result c.place_at-behind.result = search rules in
     reaches_straight _ _ _ 1 _ _ c.straight_distances-straight.result (omega arith) (omega arith) (omega arith) nearest
 
 pub returns-clause-passes : goal.returns-clause-passes

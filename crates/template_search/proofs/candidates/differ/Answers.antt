@@ -1,6 +1,6 @@
 use Rattle.std.proofs.Common.{refl}
 use Rattle.template_search.proofs.Telling.{candidate_differs, candidates_differ}
-use Rattle.template_search.proofs.differ.Goals as goal
+use Rattle.template_search.proofs.candidates.differ.Goals as goal
 
 pub returns-then-differs : goal.returns-then-differs
 returns-then-differs g c is =

@@ -2,12 +2,12 @@
 use Rattle.std.proofs.Common.{◌≡◌}
 use Rattle.template_search.specs.Openings.{IsOpening}
 use Rattle.template_search.proofs.Distances.{SearchesOn}
-use Rattle.template_search.proofs.nearest_straight.Given as goal
+use Rattle.template_search.proofs.nearest.nearest_straight.Given as goal
 
 abbrev pub invariant-loop-near : goal.invariant-loop-near
 invariant-loop-near g l =
     record {
-      size : l.size ≡ g.V.View.size l.view;
+      size : l.course.size ≡ g.V.View.size l.view;
       opening : IsOpening l.nops l.opening;
-      tried : SearchesOn g.V.View.cells g.V.View.looked l.size l.ip l.way 0 l.straight l.nops l.fn.view l.near l.view;
+      tried : SearchesOn g.V.View.cells g.V.View.looked l.course.size l.course.ip l.course.way 0 l.straight l.nops l.fn.view l.near l.view;
     }

@@ -1,5 +1,5 @@
 use Rattle.template_search.proofs.Trying.{one_fails, one_matches}
-use Rattle.template_search.proofs.match_at.Goals as goal
+use Rattle.template_search.proofs.candidates.match_at.Goals as goal
 
 pub returns-then-is_complement-clause-passes : goal.returns-then-is_complement-clause-passes
 returns-then-is_complement-clause-passes g c =

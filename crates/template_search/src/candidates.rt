@@ -1,0 +1,106 @@
+//! The candidates at one distance.
+
+ghost use Rattle.std.specs.Prelude.{◌≡◌, ◌<◌, ◌≤◌, ◌+◌, IfSome, None, [], ◌∷◌, true};
+ghost use Rattle.tierra_model.specs.Look.{Passes};
+ghost use Rattle.tierra_model.specs.Search.{try_each};
+ghost use Rattle.template_search.specs.Sides.{on_sides};
+ghost use Rattle.template_search.specs.Openings.{IsOpening};
+
+use crate::opening::Opening;
+use crate::template::is_complement;
+use tierra_model::{View, Way};
+
+/// The course of a search: from the instruction at `ip` on these sides, in a ring of `size` cells.
+#[derive(Clone, Copy, Drop)]
+pub struct Course {
+    pub ip: u32,
+    pub way: Way,
+    pub size: u32,
+}
+
+/// Where the candidates at one distance begin, on both sides.
+#[derive(Clone, Copy, Drop)]
+pub struct Pair {
+    pub ahead: u32,
+    pub behind: u32,
+}
+
+/// The first of the candidates at one distance that is a complement. Most are not, as the row tells at once.
+#[inline(always)]
+pub fn match_in_row<V: View>(
+    view: &mut V,
+    nops: &[u8],
+    course: Course,
+    opening: Opening,
+    pair: Pair,
+) -> Option<u32>
+    requires opening { IsOpening nops.now opening }
+    requires ahead { pair.ahead + 8 ≤ course.size }
+    requires behind { pair.behind + 8 ≤ course.size }
+    requires size { course.size ≡ V.size view.old }
+    ensures passes { Passes V.cells V.looked
+        (try_each course.size nops.now (on_sides course.way pair.ahead pair.behind)) view.old view.new result }
+    ensures below { IfSome result (λ p. p < course.size) }
+    ensures same { V.size view.new ≡ course.size }
+{
+    if differ(view, nops, course, opening, pair) {
+        return None;
+    }
+    match_near(view, nops, course, pair)
+}
+
+// Whether the row tells of all candidates at one distance that they are no complement.
+#[inline(always)]
+fn differ<V: View>(view: &V, nops: &[u8], course: Course, opening: Opening, pair: Pair) -> bool
+    requires opening { IsOpening nops.now opening }
+    requires ahead { pair.ahead + 8 ≤ V.size view.now }
+    requires behind { pair.behind + 8 ≤ V.size view.now }
+    ensures { result ≡ true → Passes V.cells V.looked
+        (try_each (V.size view.now) nops.now (on_sides course.way pair.ahead pair.behind))
+        view.now view.now None }
+{
+    match view.row() {
+        Some(row) => match course.way {
+            Way::Outward => opening.differs(row, pair.ahead) && opening.differs(row, pair.behind),
+            Way::Forward => opening.differs(row, pair.ahead),
+            Way::Backward => opening.differs(row, pair.behind),
+        },
+        None => false,
+    }
+}
+
+/// The first of the two candidates at one distance that is a complement, of those on the sides of the search.
+pub fn match_near<V: View>(view: &mut V, nops: &[u8], course: Course, pair: Pair) -> Option<u32>
+    requires ahead { pair.ahead < course.size }
+    requires behind { pair.behind < course.size }
+    requires size { course.size ≡ V.size view.old }
+    ensures passes { Passes V.cells V.looked
+        (try_each course.size nops.now (on_sides course.way pair.ahead pair.behind)) view.old view.new result }
+    ensures below { IfSome result (λ p. p < course.size) }
+    ensures same { V.size view.new ≡ course.size }
+{
+    match course.way {
+        Way::Outward => match match_at(view, nops, course, pair.ahead) {
+            Some(place) => Some(place),
+            None => match_at(view, nops, course, pair.behind),
+        },
+        Way::Forward => match_at(view, nops, course, pair.ahead),
+        Way::Backward => match_at(view, nops, course, pair.behind),
+    }
+}
+
+// The candidate, if it is a complement.
+fn match_at<V: View>(view: &mut V, nops: &[u8], course: Course, place: u32) -> Option<u32>
+    requires place { place < course.size }
+    requires size { course.size ≡ V.size view.old }
+    ensures passes { Passes V.cells V.looked
+        (try_each course.size nops.now (place ∷ [])) view.old view.new result }
+    ensures below { IfSome result (λ p. p < course.size) }
+    ensures same { V.size view.new ≡ course.size }
+{
+    if is_complement(view, nops, place, course.size) {
+        Some(place)
+    } else {
+        None
+    }
+}
