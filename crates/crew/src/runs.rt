@@ -1,6 +1,7 @@
 //! The crew.
 
 ghost use Rattle.std.specs.Prelude.{◌≡◌, ◌+◌, ◌-◌, ◌<◌, ◌≤◌, IfOk, OnErr, OnOk, length, true, is_some};
+ghost use Rattle.tierra_model.specs.declared.limits.TheConstants.{MOST_WORKERS};
 ghost use Rattle.std.specs.Thread.{IsSync};
 ghost use Rattle.tierra_model.specs.Genebank.{groups_of};
 ghost use Rattle.turn_lock.specs.Seats.{own_of};
@@ -52,7 +53,7 @@ fn work_with<R: Wait, G: Gate>(
 /// A seat for the next caller, split off from that of worker 1.
 pub fn seat_for(lock: &TurnLock<Book>, first: &mut Seat, caller: u32) -> Result<Seat, OutOfMemory>
     requires first { IsFirst lock.now caller first.old }
-    requires callers { (2 ≤ caller) × (caller ≤ 64) }
+    requires callers { (2 ≤ caller) × (caller ≤ MOST_WORKERS) }
     ensures other { IfOk result (IsOther lock.now caller) }
     ensures first { OnOk result (IsFirst lock.now (caller + 1) first.new) }
     ensures refused { OnErr result (first.new ≡ first.old) }
@@ -72,7 +73,7 @@ fn crew_from<R: Threads + Wait + Sync, G: Gate + Sync, H: Hand>(
     hand: &mut H,
 ) -> Led
     requires seat { IsThere first.old (IsFirst lock.now caller) }
-    requires callers { (2 ≤ caller) × (caller ≤ workers + 1) × (workers ≤ 64) }
+    requires callers { (2 ≤ caller) × (caller ≤ workers + 1) × (workers ≤ MOST_WORKERS) }
     requires hand { IsUnhalted lock.now.opening.setup (H.setup hand.old) (H.quanta hand.old)
         (H.done hand.old) (H.halts hand.old) (H.can_put hand.old) }
     ensures seat { SpeaksFrom caller lock.now result.seat }
@@ -98,7 +99,7 @@ fn crew_from<R: Threads + Wait + Sync, G: Gate + Sync, H: Hand>(
         { work_with(rt, alloc, lock, caller, &mut theirs, gate) },
         &mut || -> Led
             requires { (IsSync R.row × IsSync G.row) × IsThere mine (IsFirst lock.now (caller + 1))
-                × ((2 ≤ caller) × (caller ≤ workers) × (workers ≤ 64))
+                × ((2 ≤ caller) × (caller ≤ workers) × (workers ≤ MOST_WORKERS))
                 × IsUnhalted lock.now.opening.setup (H.setup hand.now) (H.quanta hand.now)
                 (H.done hand.now) (H.halts hand.now) (H.can_put hand.now) }
             ensures { SpeaksFrom (caller + 1) lock.entry.now result.seat
@@ -123,7 +124,7 @@ pub fn run_crew<R: Threads + Wait + Sync, G: Gate + Sync, H: Hand>(
     gate: &G,
     hand: &mut H,
 ) -> Ran
-    requires workers { (1 ≤ workers) × (workers ≤ 64) }
+    requires workers { (1 ≤ workers) × (workers ≤ MOST_WORKERS) }
     requires unhalted { H.halts hand.old ≡ 0 }
     requires can { H.can_put hand.old }
     requires setup { H.setup hand.old ≡ book.setup }

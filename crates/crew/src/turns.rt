@@ -1,7 +1,7 @@
 //! What a worker does with the book while it has it.
 
 ghost use Rattle.std.specs.Prelude.{◌≡◌, ◌+◌, ◌<◌, ◌≤◌, ◌^◌, IfOk, drop};
-ghost use Rattle.tierra_model.specs.declared.limits.TheConstants.{MOST_QUANTA};
+ghost use Rattle.tierra_model.specs.declared.limits.TheConstants.{MOST_QUANTA, MOST_WORKERS};
 ghost use Rattle.tierra_model.specs.Genebank.{bank};
 ghost use Rattle.commit_book.specs.Giving.{MayGive};
 ghost use Rattle.crew.specs.Hands.{AreNext, run_bank};
@@ -39,7 +39,7 @@ pub(crate) fn serve(
     by: u32,
     finding: Option<Finding>,
 ) -> Option<Job>
-    requires by { (1 ≤ by) × (by ≤ 64) }
+    requires by { (1 ≤ by) × (by ≤ MOST_WORKERS) }
     ensures { MayGive by book.old book.new }
 {
     counted_serve::<Brand>(alloc, book, by, finding, Blank::new(1))
@@ -52,7 +52,7 @@ fn counted_serve<L: Ledger>(
     finding: Option<Finding>,
     blank: Blank,
 ) -> Option<Job>
-    requires by { (1 ≤ by) × (by ≤ 64) }
+    requires by { (1 ≤ by) × (by ≤ MOST_WORKERS) }
     requires name { blank.name ≡ L.name }
     requires parts { blank.parts ≡ L.parts }
     requires some { 0 < L.parts }
@@ -67,7 +67,7 @@ fn counted_serve<L: Ledger>(
 
 // The next job. Where as many are out as may be, quanta are committed until there is one.
 fn next_job<L: Ledger>(alloc: Global, book: &mut Book, by: u32, steps: &mut Steps<L>) -> Option<Job>
-    requires by { (1 ≤ by) × (by ≤ 64) }
+    requires by { (1 ≤ by) × (by ≤ MOST_WORKERS) }
     ensures { MayGive by book.old book.new }
 {
     for _ in 0..book.quanta() {

@@ -4,7 +4,7 @@ ghost use Rattle.std.specs.Prelude.{◌≡◌, ◌++◌, ◌+◌, ◌<◌, ◌�
 ghost use Rattle.std.specs.Thread.{IsSync};
 ghost use Rattle.genotype_probe.specs.Dealing.{AreParts, IsPart};
 ghost use Rattle.genotype_probe.specs.Probes.{HasCode, probe};
-ghost use Rattle.tierra_model.specs.declared.limits.TheConstants.{MOST_QUANTA};
+ghost use Rattle.tierra_model.specs.declared.limits.TheConstants.{MOST_QUANTA, MOST_WORKERS};
 
 use crate::{Efforts, probe};
 use std::alloc::Global;
@@ -22,7 +22,7 @@ fn probe_every(
 ) -> Result<Vec<Efforts>, OutOfMemory>
     requires codes { All HasCode saved.now }
     requires quanta { (1 ≤ n) × (n ≤ MOST_QUANTA) }
-    requires step { (1 ≤ step) × (step ≤ 64) × (first ≤ 64) }
+    requires step { (1 ≤ step) × (step ≤ MOST_WORKERS) × (first ≤ MOST_WORKERS) }
     ensures { IfOk result (λ part. IsPart saved.now n first step part.items) }
 {
     let mut part = Vec::new(alloc);
@@ -60,7 +60,7 @@ fn parts_from<R: Threads + Sync>(
 ) -> Result<Vec<Vec<Efforts>>, OutOfMemory>
     requires codes { All HasCode saved.now }
     requires quanta { (1 ≤ n) × (n ≤ MOST_QUANTA) }
-    requires workers { (first < last) × (last ≤ step) × (step ≤ 64) }
+    requires workers { (first < last) × (last ≤ step) × (step ≤ MOST_WORKERS) }
     ensures { IfOk result (λ parts. AreParts saved.now n first last step parts.items) }
 {
     if first + 1 == last {
@@ -74,12 +74,12 @@ fn parts_from<R: Threads + Sync>(
         rt,
         || -> Result<Vec<Vec<Efforts>>, OutOfMemory>
             requires { IsSync R.row × All HasCode saved.now
-                × ((1 ≤ n) × (n ≤ MOST_QUANTA)) × ((first < middle) × (middle ≤ step) × (step ≤ 64)) }
+                × ((1 ≤ n) × (n ≤ MOST_QUANTA)) × ((first < middle) × (middle ≤ step) × (step ≤ MOST_WORKERS)) }
             ensures { IfOk result (λ parts. AreParts saved.entry.now n first middle step parts.items) }
         { parts_from(rt, alloc, saved, n, first, middle, step) },
         || -> Result<Vec<Vec<Efforts>>, OutOfMemory>
             requires { IsSync R.row × All HasCode saved.now
-                × ((1 ≤ n) × (n ≤ MOST_QUANTA)) × ((middle < last) × (last ≤ step) × (step ≤ 64)) }
+                × ((1 ≤ n) × (n ≤ MOST_QUANTA)) × ((middle < last) × (last ≤ step) × (step ≤ MOST_WORKERS)) }
             ensures { IfOk result (λ parts. AreParts saved.entry.now n middle last step parts.items) }
         { parts_from(rt, alloc, saved, n, middle, last, step) },
     );
@@ -127,7 +127,7 @@ pub(crate) fn probe_dealt<R: Threads + Sync>(
 ) -> Result<Vec<Efforts>, OutOfMemory>
     requires codes { All HasCode saved.now }
     requires quanta { (1 ≤ n) × (n ≤ MOST_QUANTA) }
-    requires workers { (1 ≤ workers) × (workers ≤ 64) }
+    requires workers { (1 ≤ workers) × (workers ≤ MOST_WORKERS) }
     ensures { IfOk result (λ all. all.items ≡ map (λ s. probe s.code n) saved.now) }
 {
     let parts = parts_from(rt, alloc, saved, n, 0, workers, workers)?;

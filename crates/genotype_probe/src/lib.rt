@@ -7,7 +7,7 @@ mod tests;
 mod text;
 
 ghost use Rattle.std.specs.Prelude.{◌≡◌, ◌++◌, ◌<◌, ◌≤◌, All, IfOk, OnOk, map};
-ghost use Rattle.tierra_model.specs.declared.limits.TheConstants.{MOST_QUANTA};
+ghost use Rattle.tierra_model.specs.declared.limits.TheConstants.{MOST_QUANTA, MOST_WORKERS};
 ghost use Rattle.tierra_model.specs.Ranges.{IsCode};
 ghost use Rattle.tierra_model.specs.World.{genotype_at};
 ghost use Rattle.genotype_probe.specs.Probes.{HasCode, efforts_of, probe, probe_all, saved_of};
@@ -81,7 +81,7 @@ pub fn probe_all<R: Threads + Sync>(
     workers: u32,
 ) -> Result<EffortList, OutOfMemory>
     requires quanta { (1 ≤ n) × (n ≤ MOST_QUANTA) }
-    requires workers { (1 ≤ workers) × (workers ≤ 64) }
+    requires workers { (1 ≤ workers) × (workers ≤ MOST_WORKERS) }
     ensures { IfOk result (λ e. e ≡ probe_all groups.now n) }
 {
     let saved = saved_of(alloc, groups)?;

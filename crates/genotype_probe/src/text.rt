@@ -2,7 +2,7 @@
 
 ghost use Rattle.std.specs.Prelude.{◌≡◌, ◌≤◌, ◌++◌, IfOk, OnOk};
 ghost use Rattle.genotype_probe.specs.Text.{effort_text, probe_line, probe_text};
-ghost use Rattle.tierra_model.specs.declared.limits.TheConstants.{MOST_QUANTA};
+ghost use Rattle.tierra_model.specs.declared.limits.TheConstants.{MOST_QUANTA, MOST_WORKERS};
 
 use crate::dealing::probe_dealt;
 use crate::{Efforts, saved_of};
@@ -20,7 +20,7 @@ pub fn probe_text<R: Threads + Sync>(
     workers: u32,
 ) -> Result<Text, OutOfMemory>
     requires quanta { (1 ≤ n) × (n ≤ MOST_QUANTA) }
-    requires workers { (1 ≤ workers) × (workers ≤ 64) }
+    requires workers { (1 ≤ workers) × (workers ≤ MOST_WORKERS) }
     ensures { IfOk result (λ text. text ≡ probe_text groups.now n) }
 {
     let saved = saved_of(alloc, groups)?;

@@ -168,7 +168,8 @@ pub trait Ground {
         requires held { IsSome (Machine.front machine (state self.old)).daughter }
         requires ran { 1 ≤ (Machine.front machine (state self.old)).ran }
         ensures state { let mother = Machine.front machine (state self.old) in
-            OnOk result (state self.new ≡ Machine.apply machine (state self.old) (event.Divide mother.ran mother.moved)) }
+            OnOk result (state self.new
+            ≡ Machine.apply machine (state self.old) (event.Divide mother.ran mother.moved)) }
         ensures frame { OnOk result (frame self.new ≡ frame self.old) }
         ensures ready { OnOk result ((n : ℕ) → Ready self.old (n + 2) → Ready self.new n) }
         ensures err { OnErr result Refusal };

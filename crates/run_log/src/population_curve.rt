@@ -12,7 +12,7 @@ ghost use Rattle.run_log.specs.Records.{living_in, point_of, quantum_of, up_to};
 
 use crate::log::{Log, Point};
 use crate::record::Record;
-use serial_slicer::run_on;
+use serial_slicer::InPlace;
 use std::alloc::Global;
 use tierra_model::{OutOfMemory, SeedList, Setup, Text};
 use world_core::World;
@@ -38,17 +38,17 @@ fn log_of_run(alloc: Global, setup: &Setup, quanta: u64) -> Result<Log, OutOfMem
         → point_of log.inoculated (up_to q log.records) ≡ counts_of (serial setup.now q)) }
 {
     let inoculated = count_of(setup);
-    let mut world = World::start(alloc, setup)?;
+    let mut run = InPlace::of(World::start(alloc, setup)?)?;
     let mut log = Log::new(alloc, inoculated);
     let mut living = numbers(alloc, inoculated)?;
     for before in 0..quanta {
-        let first = inoculated + world.births() + 1;
-        let dead = world.deaths();
-        world = run_on(alloc, world, 1)?;
-        let next = inoculated + world.births() + 1;
+        let first = inoculated + run.births() + 1;
+        let dead = run.deaths();
+        run.next(alloc)?;
+        let next = inoculated + run.births() + 1;
         note_births(&mut log, &mut living, before + 1, first, next)?;
-        let died = world.deaths() - dead;
-        living = note_deaths(alloc, &mut log, living, &world, before + 1, died)?;
+        let died = run.deaths() - dead;
+        living = note_deaths(alloc, &mut log, living, &run, before + 1, died)?;
     }
     Ok(log)
 }
@@ -104,24 +104,24 @@ fn note_deaths(
     alloc: Global,
     log: &mut Log,
     living: Vec<u64>,
-    world: &World,
+    run: &InPlace,
     quantum: u64,
     died: u64,
 ) -> Result<Vec<u64>, OutOfMemory>
     requires order { All (λ r. quantum_of r ≤ quantum) log.old.records }
     requires living { living.items ≡ living_in log.old.inoculated log.old.records }
     requires once { (id : ℕ) → times_in living.items id ≤ 1 }
-    requires died { length (filter (λ id. not (lives world.now.world id)) living.items) ≡ died }
+    requires died { length (filter (λ id. not (lives run.now id)) living.items) ≡ died }
     ensures inoculated { log.new.inoculated ≡ log.old.inoculated }
-    ensures living { IfOk result (λ left. left.items ≡ filter (lives world.now.world) living.items) }
+    ensures living { IfOk result (λ left. left.items ≡ filter (lives run.now) living.items) }
     ensures records { IfOk result (λ left. log.new.records
         ≡ log.old.records ++ map (λ id. record_of.Death quantum id)
-        (filter (λ id. not (lives world.now.world id)) living.items)) }
+        (filter (λ id. not (lives run.now id)) living.items)) }
 {
     if died == 0 {
         return Ok(living);
     }
-    note_each_death(alloc, log, &living, world, quantum)
+    note_each_death(alloc, log, &living, run, quantum)
 }
 
 // Notes the deaths of the quantum, among those who lived; the answer is who lives in the world.
@@ -129,21 +129,21 @@ fn note_each_death(
     alloc: Global,
     log: &mut Log,
     living: &[u64],
-    world: &World,
+    run: &InPlace,
     quantum: u64,
 ) -> Result<Vec<u64>, OutOfMemory>
     requires order { All (λ r. quantum_of r ≤ quantum) log.old.records }
     requires living { living.now ≡ living_in log.old.inoculated log.old.records }
     requires once { (id : ℕ) → times_in living.now id ≤ 1 }
     ensures inoculated { log.new.inoculated ≡ log.old.inoculated }
-    ensures living { IfOk result (λ left. left.items ≡ filter (lives world.now.world) living.now) }
+    ensures living { IfOk result (λ left. left.items ≡ filter (lives run.now) living.now) }
     ensures records { IfOk result (λ left. log.new.records
         ≡ log.old.records ++ map (λ id. record_of.Death quantum id)
-        (filter (λ id. not (lives world.now.world id)) living.now)) }
+        (filter (λ id. not (lives run.now id)) living.now)) }
 {
     let mut left = Vec::new(alloc);
     for id in living {
-        keep_or_note(log, &mut left, world, quantum, *id)?;
+        keep_or_note(log, &mut left, run, quantum, *id)?;
     }
     Ok(left)
 }
@@ -152,7 +152,7 @@ fn note_each_death(
 fn keep_or_note(
     log: &mut Log,
     left: &mut Vec<u64>,
-    world: &World,
+    run: &InPlace,
     quantum: u64,
     id: u64,
 ) -> Result<(), OutOfMemory>
@@ -160,11 +160,11 @@ fn keep_or_note(
     requires present { 0 < times_in (living_in log.old.inoculated log.old.records) id }
     ensures inoculated { log.new.inoculated ≡ log.old.inoculated }
     ensures left { OnOk result (left.new.items
-        ≡ (if lives world.now.world id then left.old.items ++ id ∷ [] else left.old.items)) }
+        ≡ (if lives run.now id then left.old.items ++ id ∷ [] else left.old.items)) }
     ensures records { OnOk result (log.new.records
-        ≡ (if lives world.now.world id then log.old.records else log.old.records ++ record_of.Death quantum id ∷ [])) }
+        ≡ (if lives run.now id then log.old.records else log.old.records ++ record_of.Death quantum id ∷ [])) }
 {
-    if lives(world, id) {
+    if lives(run, id) {
         left.push(id)?;
         return Ok(());
     }
@@ -173,10 +173,10 @@ fn keep_or_note(
     Ok(())
 }
 
-fn lives(world: &World, id: u64) -> bool
-    ensures { result ≡ lives world.now.world id }
+fn lives(run: &InPlace, id: u64) -> bool
+    ensures { result ≡ lives run.now id }
 {
-    world.creature(id).is_some()
+    run.creature(id).is_some()
 }
 
 // ---- the text

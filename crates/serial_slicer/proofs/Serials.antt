@@ -21,11 +21,6 @@ pub goes_on : (n : ℕ) (w u v : World) → u ≡ after n w → v ≡ quantum u 
 unfolding after
 goes_on n w u v is next = next ∙ ap quantum is ∙ sym (ap (λ (k : ℕ). after k w) (add-one n))
 
--- one quantum more
-pub after-one : (w : World) → after 1 w ≡ quantum w
-unfolding after
-after-one w = refl
-
 -- a run from the start is the serial run
 pub after-start : (setup : SetupFields) (n : ℕ) → after n (start setup) ≡ serial setup n
 unfolding after serial

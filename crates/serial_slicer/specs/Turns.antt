@@ -1,6 +1,6 @@
 -- A world in a quantum, and the record of the creature that runs, which is kept out of it.
-use Rattle.std.specs.Prelude.{Option, length, ℕ, ◌<◌, ◌≡◌}
-use Rattle.tierra_model.specs.declared.limits.TheConstants.{COUNT_END}
+use Rattle.std.specs.Prelude.{◌+◌, Option, length, ℕ, ◌<◌, ◌≡◌}
+use Rattle.tierra_model.specs.declared.limits.TheConstants.{COUNT_END, MOST_QUANTA}
 use Rattle.tierra_model.specs.declared.creatures.Block.{Block}
 use Rattle.tierra_model.specs.declared.creatures.Creature.{Creature}
 use Rattle.tierra_model.specs.declared.parameters.Settings.{Settings}
@@ -38,4 +38,4 @@ pub record InQuantum (w : World) : Type 0 where
   pub within : WithinQuantum settings errors copies births size quantum w
   pub few_errors : errors < COUNT_END
   pub few_births : births < COUNT_END
-  pub few_quanta : quantum < 4000001
+  pub few_quanta : quantum < MOST_QUANTA + 1

@@ -1,6 +1,6 @@
 //! A world that runs on in place.
 
-ghost use Rattle.std.specs.Prelude.{◌≡◌, ◌<◌, IfOk, OnOk, length};
+ghost use Rattle.std.specs.Prelude.{◌≡◌, ◌==◌, ◌<◌, IfOk, OnOk, find, length, option_copied};
 ghost use Rattle.tierra_model.specs.declared.limits.TheConstants.{MOST_QUANTA};
 ghost use Rattle.tierra_model.specs.Quantum.{quantum};
 ghost use Rattle.tierra_model.specs.Sound.{IsSound};
@@ -12,7 +12,7 @@ use std::alloc::Global;
 use std::marker::{Brand, Model};
 use std::sync::ledger::{Blank, Ledger};
 use step_count::Steps;
-use tierra_model::OutOfMemory;
+use tierra_model::{Creature, OutOfMemory};
 use world_core::World;
 
 /// A world that runs on in place, one quantum after another, for who looks at it between two of them. Where a quantum found no
@@ -54,6 +54,27 @@ impl InPlace {
         ensures { result ≡ length self.now.saved }
     {
         self.sole.kept()
+    }
+
+    /// How many were born; those of the start are not counted.
+    pub fn births(&self) -> u64
+        ensures { result ≡ self.now.births }
+    {
+        self.sole.births()
+    }
+
+    /// How many died.
+    pub fn deaths(&self) -> u64
+        ensures { result ≡ self.now.deaths }
+    {
+        self.sole.deaths()
+    }
+
+    /// The record of a creature, if it lives.
+    pub fn creature(&self, id: u64) -> Option<&Creature>
+        ensures { option_copied result ≡ find (λ c. c.id == id) self.now.living }
+    {
+        self.sole.creature(id)
     }
 
     /// The next quantum.

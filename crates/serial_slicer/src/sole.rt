@@ -1,6 +1,6 @@
 //! A world of which nobody has a version.
 
-ghost use Rattle.std.specs.Prelude.{◌≡◌, ◌<◌, ◌^◌, ◌≤◌, IfOk, IsSome, OnOk, length, slice_index};
+ghost use Rattle.std.specs.Prelude.{◌≡◌, ◌==◌, ◌<◌, ◌^◌, ◌≤◌, IfOk, IsSome, OnOk, find, length, option_copied, slice_index};
 ghost use Rattle.tierra_model.specs.declared.limits.TheConstants.{MOST_SIZE};
 ghost use Rattle.tierra_model.specs.declared.events.Event.TheVariants as event;
 ghost use Rattle.tierra_model.specs.Draw.{back_flip, word};
@@ -142,6 +142,25 @@ impl Sole {
         ensures { result ≡ length self.now.world.saved }
     {
         self.running.kept()
+    }
+
+    pub(crate) fn births(&self) -> u64
+        ensures { result ≡ self.now.world.births }
+    {
+        self.running.births()
+    }
+
+    pub(crate) fn deaths(&self) -> u64
+        ensures { result ≡ self.now.world.deaths }
+    {
+        self.running.deaths()
+    }
+
+    /// The record of a creature, if it lives.
+    pub(crate) fn creature(&self, id: u64) -> Option<&Creature>
+        ensures { option_copied result ≡ find (λ c. c.id == id) self.now.world.living }
+    {
+        self.running.creature(id)
     }
 
     /// The creature whose turn it is.

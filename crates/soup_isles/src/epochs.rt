@@ -2,7 +2,7 @@
 
 ghost use Rattle.std.specs.Prelude.{◌≡◌, ◌+◌, ◌<◌, ◌≤◌, All, IfOk, length, map};
 ghost use Rattle.std.specs.Thread.{IsSync};
-ghost use Rattle.tierra_model.specs.declared.limits.TheConstants.{MOST_QUANTA};
+ghost use Rattle.tierra_model.specs.declared.limits.TheConstants.{MOST_EPOCHS, MOST_ISLES, MOST_QUANTA, MOST_WORKERS};
 ghost use Rattle.tierra_model.specs.Serial.{serial};
 ghost use Rattle.tierra_model.specs.Setups.{IsSetup};
 ghost use Rattle.soup_isles.specs.Runs.{first_setup, first_setups, isle_worlds, setups_after, worlds_of};
@@ -27,10 +27,10 @@ pub fn run_isles<R: Threads + Sync>(
     quanta: u64,
     workers: u32,
 ) -> Result<WorldList, OutOfMemory>
-    requires isles { (1 ≤ isles) × (isles ≤ 64) }
-    requires epochs { (1 ≤ epochs) × (epochs ≤ 1000) }
+    requires isles { (1 ≤ isles) × (isles ≤ MOST_ISLES) }
+    requires epochs { (1 ≤ epochs) × (epochs ≤ MOST_EPOCHS) }
     requires quanta { (1 ≤ quanta) × (quanta ≤ MOST_QUANTA) }
-    requires workers { (1 ≤ workers) × (workers ≤ 64) }
+    requires workers { (1 ≤ workers) × (workers ≤ MOST_WORKERS) }
     ensures { IfOk result (λ worlds. worlds ≡ isle_worlds setup.now isles epochs quanta) }
 {
     let mut setups = first_setups(alloc, setup, isles)?;
@@ -113,7 +113,7 @@ pub(crate) fn run_epoch<R: Threads + Sync>(
     workers: u32,
 ) -> Result<WorldList, OutOfMemory>
     requires quanta { (1 ≤ quanta) × (quanta ≤ MOST_QUANTA) }
-    requires workers { (1 ≤ workers) × (workers ≤ 64) }
+    requires workers { (1 ≤ workers) × (workers ≤ MOST_WORKERS) }
     ensures worlds { IfOk result (λ worlds. worlds ≡ worlds_of setups.now quanta) }
     ensures settings { IfOk result (λ worlds. map (λ w. w.settings) worlds ≡ map (λ s. s.settings) setups.now) }
 {
@@ -130,7 +130,7 @@ fn run_parts<R: Threads + Sync>(
     workers: u32,
 ) -> Result<Vec<World>, OutOfMemory>
     requires quanta { (1 ≤ quanta) × (quanta ≤ MOST_QUANTA) }
-    requires workers { (1 ≤ workers) × (workers ≤ 64) }
+    requires workers { (1 ≤ workers) × (workers ≤ MOST_WORKERS) }
     ensures { IfOk result (λ v. map (λ w. w.world) v.items ≡ worlds_of setups.now quanta) }
 {
     if workers == 1 {
@@ -141,12 +141,13 @@ fn run_parts<R: Threads + Sync>(
     let (first, second) = join(
         rt,
         || -> Result<Vec<World>, OutOfMemory>
-            requires { IsSync R.row × ((1 ≤ quanta) × (quanta ≤ MOST_QUANTA)) × ((1 ≤ others) × (others ≤ 64)) }
+            requires { IsSync R.row
+                × ((1 ≤ quanta) × (quanta ≤ MOST_QUANTA)) × ((1 ≤ others) × (others ≤ MOST_WORKERS)) }
             ensures { IfOk result (λ v. map (λ w. w.world) v.items ≡ worlds_of theirs.entry.now quanta) }
         { run_parts(rt, alloc, theirs, quanta, others) },
         || -> Result<Vec<World>, OutOfMemory>
             requires { IsSync R.row × ((1 ≤ quanta) × (quanta ≤ MOST_QUANTA))
-                × ((1 ≤ others) × (others < workers) × (workers ≤ 64)) }
+                × ((1 ≤ others) × (others < workers) × (workers ≤ MOST_WORKERS)) }
             ensures { IfOk result (λ v. map (λ w. w.world) v.items ≡ worlds_of ours.entry.now quanta) }
         { run_parts(rt, alloc, ours, quanta, workers - others) },
     );
@@ -157,7 +158,7 @@ fn run_parts<R: Threads + Sync>(
 
 // How many of so many isles some of the workers run, where each worker runs as many as any other, or one more.
 fn share_of(some: u32, workers: u32, isles: usize) -> usize
-    requires { (some < workers) × (workers ≤ 64) }
+    requires { (some < workers) × (workers ≤ MOST_WORKERS) }
     ensures { result ≤ isles }
 {
     let each = isles / workers as usize;

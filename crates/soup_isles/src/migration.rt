@@ -1,6 +1,7 @@
 //! The step from an epoch to the next.
 
 ghost use Rattle.std.specs.Prelude.{◌≡◌, ◌<◌, ◌≤◌, IfOk, length, map};
+ghost use Rattle.tierra_model.specs.declared.limits.TheConstants.{MOST_ISLES};
 ghost use Rattle.tierra_model.specs.Setups.{IsSetup};
 ghost use Rattle.tierra_model.specs.Sound.{IsSound};
 ghost use Rattle.soup_isles.specs.Isles.{next_creatures, next_setup, next_setups, place_before, world_at};
@@ -20,7 +21,7 @@ pub fn next_setups(
     seed: &[u8; 32],
     epoch: u64,
 ) -> Result<SetupList, OutOfMemory>
-    requires few { (1 ≤ length setups.now) × (length setups.now ≤ 64) }
+    requires few { (1 ≤ length setups.now) × (length setups.now ≤ MOST_ISLES) }
     requires settings { map (λ w. w.settings) worlds.now ≡ map (λ s. s.settings) setups.now }
     ensures { IfOk result (λ next. next ≡ next_setups setups.now worlds.now seed.now epoch) }
 {
@@ -42,7 +43,7 @@ fn next_setup(
     place: usize,
 ) -> Result<Setup, OutOfMemory>
     requires place { place < length setups.now }
-    requires few { length setups.now ≤ 64 }
+    requires few { length setups.now ≤ MOST_ISLES }
     requires settings { map (λ w. w.settings) worlds.now ≡ map (λ s. s.settings) setups.now }
     ensures next { IfOk result (λ next. next ≡ next_setup setups.now worlds.now seed.now epoch place) }
     ensures setup { IfOk result IsSetup }
@@ -65,7 +66,7 @@ fn next_creatures(
     place: usize,
 ) -> Result<Vec<Inoculum>, OutOfMemory>
     requires place { place < length worlds.now }
-    requires few { length worlds.now ≤ 64 }
+    requires few { length worlds.now ≤ MOST_ISLES }
     ensures creatures { IfOk result (λ v. v.items ≡ next_creatures worlds.now place) }
     ensures setup { IfOk result (λ v. IsSetup
         (record { settings = (world_at worlds.now place).settings; creatures = v.items })) }

@@ -7,7 +7,7 @@ ghost use Rattle.commit_book.specs.Books.{world_of};
 ghost use Rattle.report_text.specs.Report.{report};
 ghost use Rattle.soup_top.specs.Handing.{GoesOn, IsOnTheWay, StopsAt, TookAll, number_of_stops};
 ghost use Rattle.soup_top.specs.Sources.{run_groups, run_report};
-ghost use Rattle.tierra_model.specs.declared.limits.TheConstants.{MOST_QUANTA};
+ghost use Rattle.tierra_model.specs.declared.limits.TheConstants.{MOST_QUANTA, MOST_WORKERS};
 
 use crate::keeping::take_group;
 use crate::stop::RunStop;
@@ -148,7 +148,7 @@ fn run_book<R: Threads + Wait + Sync, G: Gate + Sync, D: Desk>(
     book: Book,
     workers: u32,
 ) -> Ran
-    requires workers { (1 ≤ workers) × (workers ≤ 64) }
+    requires workers { (1 ≤ workers) × (workers ≤ MOST_WORKERS) }
     requires few { start.now.quanta ≤ MOST_QUANTA }
     requires setup { start.now.setup.value ≡ book.setup }
     requires quanta { start.now.quanta ≡ book.quanta }
@@ -192,7 +192,7 @@ pub(crate) fn keep_book<R: Threads + Wait + Sync, G: Gate + Sync, D: Desk>(
     book: Book,
     workers: u32,
 ) -> Result<Text, RunStop>
-    requires workers { (1 ≤ workers) × (workers ≤ 64) }
+    requires workers { (1 ≤ workers) × (workers ≤ MOST_WORKERS) }
     requires few { start.now.quanta ≤ MOST_QUANTA }
     requires setup { start.now.setup.value ≡ book.setup }
     requires quanta { start.now.quanta ≡ book.quanta }

@@ -12,7 +12,7 @@ ghost use Rattle.soup_top.specs.Genebank.{BeginsWith, DiskIsOfHistory, IsFirstTo
 ghost use Rattle.soup_top.specs.Keeping.{Completes, IsKeeping, IsToldAtRefusal};
 ghost use Rattle.soup_top.specs.Sources.{run_groups, run_report, run_text};
 ghost use Rattle.soup_top.specs.Stops.{CountsStops, IfDiffers, IfHoldRefused, IfRefused, UnlessTelling};
-ghost use Rattle.tierra_model.specs.declared.limits.TheConstants.{MOST_QUANTA};
+ghost use Rattle.tierra_model.specs.declared.limits.TheConstants.{MOST_QUANTA, MOST_WORKERS};
 
 use crate::hand::{Keeper, Start, keep_book};
 use crate::stop::RunStop;
@@ -62,7 +62,7 @@ fn run_with_crew<R: Threads + Wait + Sync, G: Gate + Sync, D: Desk>(
     workers: u32,
 ) -> Result<Text, RunStop>
     requires quanta { (1 ≤ quanta) × (quanta ≤ MOST_QUANTA) }
-    requires workers { (1 ≤ workers) × (workers ≤ 64) }
+    requires workers { (1 ≤ workers) × (workers ≤ MOST_WORKERS) }
     requires attached { IsAttached bank (D.state desk.old) }
     ensures report { IfOk result (λ text. text ≡ run_report setup quanta) }
     ensures completed { OnOk result (Completes bank (run_groups setup quanta) (D.state desk.old) (D.state desk.new)) }
@@ -107,7 +107,7 @@ fn keep_and_report<R: Threads + Wait + Sync, G: Gate + Sync, D: Desk>(
     workers: u32,
 ) -> Result<(), RunStop>
     requires quanta { (1 ≤ quanta) × (quanta ≤ MOST_QUANTA) }
-    requires workers { (1 ≤ workers) × (workers ≤ 64) }
+    requires workers { (1 ≤ workers) × (workers ≤ MOST_WORKERS) }
     requires attached { IsAttached bank (D.state desk.old) }
     ensures completed { OnOk result (Completes bank (run_groups setup quanta) (D.state desk.old) (D.state desk.new)) }
     ensures differs { IfErr result (λ s. IfDiffers s (λ k. IsFirstToDiffer bank.groups (run_groups setup quanta) k
@@ -138,7 +138,7 @@ pub(crate) fn run<R: Threads + Wait + Sync, G: Gate + Sync, D: Desk>(
     workers: u32,
 ) -> Result<(), RunStop>
     requires quanta { (1 ≤ quanta) × (quanta ≤ MOST_QUANTA) }
-    requires workers { (1 ≤ workers) × (workers ≤ 64) }
+    requires workers { (1 ≤ workers) × (workers ≤ MOST_WORKERS) }
     requires sound { HasNoFault (D.state desk.old) }
     ensures told { TellsText (D.state desk.old) (D.state desk.new) (run_text setup quanta) result }
     ensures unfinished { IfErr result (λ s. UnlessTelling s

@@ -1,7 +1,9 @@
 //! The call that does all that the program does.
 
-ghost use Rattle.std.specs.Prelude.{◌≡◌, ◌⊎◌, ◌+◌, ◌<◌, ◌≤◌, [], ℕ, List, Some, IfErr, IfSome, OnErr, OnOk, Option, length, take};
+ghost use Rattle.std.specs.Prelude.{◌-◌, ◌≡◌, ◌⊎◌, ◌+◌, ◌<◌, ◌≤◌, [], ℕ, List, Some, IfErr, IfSome, OnErr, OnOk, Option, length, take};
+ghost use Rattle.tierra_model.specs.declared.limits.TheConstants.{MOST_WORKERS};
 ghost use Rattle.bank_recover.specs.declared.faults.BankFault.{BankFault};
+ghost use Rattle.soup_top.specs.declared.asking.TheConstants.{MOST_BYTES};
 ghost use Rattle.desk_io.specs.Desk.{Appended, Elapses, HasNoFault, IsTellCall, Untouched};
 ghost use Rattle.soup_checkpoint.specs.declared.faults.HoldFault.{HoldFault};
 ghost use Rattle.soup_hold.specs.Holding.{CanHold, IsCutShort, IsEarly, IsHoldText, RefusesHold};
@@ -81,7 +83,7 @@ fn watch_and_tell<R: Threads + Wait + Sync, G: Gate + Sync, D: Desk>(
     order: Order,
 ) -> Result<(), RunStop>
     requires range { IsInRange order }
-    requires workers { order.workers ≤ 63 }
+    requires workers { order.workers ≤ MOST_WORKERS - 1 }
     requires sound { HasNoFault (D.state desk.old) }
     ensures told { OnOk result ((text : List ℕ) × IsWatchText setup order.quanta order.looks text
         × Appended (D.state desk.old).told text (D.state desk.new).told) }
@@ -302,7 +304,7 @@ pub fn tierra<R: Threads + Wait + Sync, S: Source, D: Desk, G: Gate + Sync>(
     ensures unread { (order : Order) → AsksFor (texts_of words.now) order → (ReadsSource (kind_of order) → ⊥)
         → source.new ≡ source.old }
     ensures no_further { IfSome (S.left source.old) (λ xs. IfSome (S.left source.new) (λ ys.
-        length xs ≤ length ys + 1048577)) }
+        length xs ≤ length ys + (MOST_BYTES + 1))) }
 
     // A count that rose is the answer.
     ensures source_steady { UnlessReadFault result (S.faults source.new ≡ 0) }

@@ -1,8 +1,8 @@
 //! A run that an observer watches.
 
-ghost use Rattle.std.specs.Prelude.{◌≡◌, ◌+◌, ◌++◌, ◌<◌, ◌≤◌, ◌^◌, IfOk, OnOk, min};
+ghost use Rattle.std.specs.Prelude.{◌-◌, ◌≡◌, ◌+◌, ◌++◌, ◌<◌, ◌≤◌, ◌^◌, IfOk, OnOk, min};
 ghost use Rattle.std.specs.Thread.{IsSync};
-ghost use Rattle.tierra_model.specs.declared.limits.TheConstants.{MOST_QUANTA};
+ghost use Rattle.tierra_model.specs.declared.limits.TheConstants.{MOST_LOOKS, MOST_QUANTA, MOST_WORKERS};
 ghost use Rattle.tierra_model.specs.Serial.{serial};
 ghost use Rattle.commit_book.specs.Books.{world_of};
 ghost use Rattle.commit_book.specs.Giving.{MayGive};
@@ -111,7 +111,7 @@ fn observe<R: Wait>(
 ) -> Result<(Seat, Sights), OutOfMemory>
     requires lock { seat.lock ≡ lock.now }
     requires turns { seat.turns ≡ 0 }
-    requires few { (quanta ≤ MOST_QUANTA) × (looks ≤ 1000) }
+    requires few { (quanta ≤ MOST_QUANTA) × (looks ≤ MOST_LOOKS) }
     ensures worked { IfOk result (λ r. HasWorked 500000001000 seat r.0) }
     ensures seen { IfOk result (λ r. HasSeen lock.now.opening.setup.0 looks r.0.seen r.1.sights) }
     ensures room { IfOk result (λ r. 0 < r.1.spare) }
@@ -139,7 +139,7 @@ fn observe_on<R: Wait>(
     looks: u64,
 ) -> Result<(Seat, Sights), OutOfMemory>
     requires seat { IsThere seat.old (IsOther lock.now observer) }
-    requires few { (quanta ≤ MOST_QUANTA) × (looks ≤ 1000) }
+    requires few { (quanta ≤ MOST_QUANTA) × (looks ≤ MOST_LOOKS) }
     ensures joined { IfOk result (λ r. IsJoined lock.now observer observer r.0) }
     ensures seen { IfOk result (λ r. HasSeen lock.now.opening.setup.0 looks r.0.seen r.1.sights) }
     ensures room { IfOk result (λ r. 0 < r.1.spare) }
@@ -162,8 +162,8 @@ fn with_observer<R: Threads + Wait + Sync, G: Gate + Sync>(
     gate: &G,
 ) -> Result<Watched, OutOfMemory>
     requires first { IsThere first.old (IsFirst lock.now observer) }
-    requires callers { (2 ≤ observer) × (observer ≤ 64) }
-    requires looks { looks ≤ 1000 }
+    requires callers { (2 ≤ observer) × (observer ≤ MOST_WORKERS) }
+    requires looks { looks ≤ MOST_LOOKS }
     requires run { lock.now.opening.setup.1 ≡ quanta }
     requires few { quanta ≤ MOST_QUANTA }
     ensures { IfOk result (IsWatched lock.now.opening.setup.0 lock.now observer observer looks) }
@@ -178,7 +178,7 @@ fn with_observer<R: Threads + Wait + Sync, G: Gate + Sync>(
         rt,
         &mut || -> Result<(Seat, Sights), OutOfMemory>
             requires { IsSync R.row × IsThere theirs (IsOther lock.now observer)
-                × ((quanta ≤ MOST_QUANTA) × (looks ≤ 1000)) }
+                × ((quanta ≤ MOST_QUANTA) × (looks ≤ MOST_LOOKS)) }
             ensures { IfOk result (λ r. IsJoined lock.entry.now observer observer r.0
                 × HasSeen lock.entry.now.opening.setup.0 looks r.0.seen r.1.sights × (0 < r.1.spare)) }
         { observe_on(rt, alloc, lock, observer, &mut theirs, quanta, looks) },
@@ -209,8 +209,8 @@ fn crew_from<R: Threads + Wait + Sync, G: Gate + Sync>(
     gate: &G,
 ) -> Result<Watched, OutOfMemory>
     requires first { IsThere first.old (IsFirst lock.now caller) }
-    requires callers { (2 ≤ caller) × (caller ≤ observer) × (observer ≤ 64) }
-    requires looks { looks ≤ 1000 }
+    requires callers { (2 ≤ caller) × (caller ≤ observer) × (observer ≤ MOST_WORKERS) }
+    requires looks { looks ≤ MOST_LOOKS }
     requires run { lock.now.opening.setup.1 ≡ quanta }
     requires few { quanta ≤ MOST_QUANTA }
     ensures { IfOk result (IsWatched lock.now.opening.setup.0 lock.now caller observer looks) }
@@ -233,8 +233,8 @@ fn crew_from<R: Threads + Wait + Sync, G: Gate + Sync>(
         { work_on(rt, alloc, lock, caller, &mut theirs, gate) },
         &mut || -> Result<Watched, OutOfMemory>
             requires { (IsSync R.row × IsSync G.row) × IsThere mine (IsFirst lock.now (caller + 1))
-                × ((2 ≤ caller) × (caller < observer) × (observer ≤ 64))
-                × ((looks ≤ 1000) × (lock.now.opening.setup.1 ≡ quanta) × (quanta ≤ MOST_QUANTA)) }
+                × ((2 ≤ caller) × (caller < observer) × (observer ≤ MOST_WORKERS))
+                × ((looks ≤ MOST_LOOKS) × (lock.now.opening.setup.1 ≡ quanta) × (quanta ≤ MOST_QUANTA)) }
             ensures { IfOk result
                 (IsWatched lock.entry.now.opening.setup.0 lock.entry.now (caller + 1) observer looks) }
         {
@@ -261,7 +261,7 @@ fn crew_from<R: Threads + Wait + Sync, G: Gate + Sync>(
 
 // Commits one quantum more, where one is left.
 fn advance_one(alloc: Global, book: &mut Book, by: u32) -> Result<(), OutOfMemory>
-    requires by { (1 ≤ by) × (by ≤ 64) }
+    requires by { (1 ≤ by) × (by ≤ MOST_WORKERS) }
     ensures gives { MayGive by book.old book.new }
     ensures more { OnOk result (min (book.old.committed + 1) book.old.quanta ≤ book.new.committed) }
 {
@@ -275,7 +275,7 @@ fn counted_advance<L: Ledger>(
     by: u32,
     blank: Blank,
 ) -> Result<(), OutOfMemory>
-    requires by { (1 ≤ by) × (by ≤ 64) }
+    requires by { (1 ≤ by) × (by ≤ MOST_WORKERS) }
     requires name { blank.name ≡ L.name }
     requires parts { blank.parts ≡ L.parts }
     requires some { 0 < L.parts }
@@ -291,7 +291,7 @@ fn counted_advance<L: Ledger>(
 
 // Commits the quanta that are left.
 fn commit_all(alloc: Global, book: &mut Book, by: u32) -> Result<(), OutOfMemory>
-    requires by { (1 ≤ by) × (by ≤ 64) }
+    requires by { (1 ≤ by) × (by ≤ MOST_WORKERS) }
     ensures gives { MayGive by book.old book.new }
     ensures all { OnOk result (book.new.committed ≡ book.old.quanta) }
 {
@@ -331,7 +331,7 @@ fn see_end<R: Wait>(
     looks: u64,
     watched: Watched,
 ) -> Result<(Sights, Book), OutOfMemory>
-    requires callers { (2 ≤ observer) × (observer ≤ 64) }
+    requires callers { (2 ≤ observer) × (observer ≤ MOST_WORKERS) }
     requires watched { IsWatched lock.opening.setup.0 lock 2 observer looks watched }
     requires few { lock.opening.setup.1 ≤ MOST_QUANTA }
     ensures sights { IfOk result (λ r. AreSights lock.opening.setup.0 lock.opening.setup.1 looks r.0.sights) }
@@ -370,8 +370,8 @@ pub fn watch<R: Threads + Wait + Sync, G: Gate + Sync>(
     looks: u64,
 ) -> Result<Text, OutOfMemory>
     requires quanta { (1 ≤ quanta) × (quanta ≤ MOST_QUANTA) }
-    requires workers { (1 ≤ workers) × (workers ≤ 63) }
-    requires looks { looks ≤ 1000 }
+    requires workers { (1 ≤ workers) × (workers ≤ MOST_WORKERS - 1) }
+    requires looks { looks ≤ MOST_LOOKS }
     ensures { IfOk result (IsWatchText setup quanta looks) }
 {
     let book = Book::begin(alloc, setup, quanta, 2 * workers)?;

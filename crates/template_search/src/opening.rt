@@ -12,6 +12,7 @@ pub struct Opening {
 }
 
 impl Opening {
+    /// The opening of the complement of these nops.
     pub fn of(nops: &[u8]) -> Opening
         ensures { IsOpening nops.now result }
     {

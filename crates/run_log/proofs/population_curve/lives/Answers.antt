@@ -17,4 +17,4 @@ copied (Some x) = refl
 
 pub returns : goal.returns
 returns c =
-    c.is_some.ensures ∙ copied c.creature.result ∙ ap is_some c.creature.ensures ∙ found c.args.world.now.world.living c.args.id
+    c.is_some.ensures ∙ copied c.creature.result ∙ ap is_some c.creature.ensures ∙ found c.args.run.now.living c.args.id

@@ -8,7 +8,6 @@ use Rattle.tierra_model.specs.Serial.{serial, start}
 use Rattle.tierra_model.specs.Setups.{IsSetup, SetupFields}
 use Rattle.tierra_model.specs.World.{World}
 use Rattle.tierra_model.proofs.Sound.{sound-each_once}
-use Rattle.serial_slicer.proofs.Serials.{after-one}
 use Rattle.run_log.specs.declared.record.Record.{Record}
 use Rattle.run_log.specs.declared.record.Record.TheVariants.{Birth, Death}
 use Rattle.run_log.specs.Curve.{born_in, dead_in, lived_in, lives, records_in, run_records}
@@ -45,18 +44,26 @@ loop-before-init c =
     c.count_of-inoculated.ensures.count ∙ start-count setup in
     let began = c.in_ok-world.ensures in
     record {
-      world = began ∙ sym (serial-none setup);
+      run = began ∙ sym (serial-none setup);
       inoculated = c.new-log.ensures.inoculated ∙ inoculated;
       records = c.new-log.ensures.records ∙ sym (run-none setup);
       living = c.in_ok-living.ensures ∙ ap (range_with_len 1) inoculated ∙ sym (start-ids setup) ∙ ap (λ (u : World). ids_of u.living) (sym began);
     }
 
-pub run_on-requires : goal.run_on-requires
-run_on-requires c =
+pub next-requires-clause-sound : goal.next-requires-clause-sound
+next-requires-clause-sound c =
     let setup : SetupFields = c.args.setup.now in
     let h : IsSetup setup = c.count_of-inoculated.ensures.setup in
-    let v : World = c.loop-before.world.world in
-    let at : IsAt setup c.loop-before.before v = is-at setup c.loop-before.before v h (omega (arith, c.loop-before-test.true, c.requires)) c.loop-before.invariant.world in
+    let v : World = c.loop-before.run in
+    let at : IsAt setup c.loop-before.before v = is-at setup c.loop-before.before v h (omega (arith, c.loop-before-test.true, c.requires)) c.loop-before.invariant.run in
+    at.sound
+
+pub next-requires-clause-more : goal.next-requires-clause-more
+next-requires-clause-more c =
+    let setup : SetupFields = c.args.setup.now in
+    let h : IsSetup setup = c.count_of-inoculated.ensures.setup in
+    let v : World = c.loop-before.run in
+    let at : IsAt setup c.loop-before.before v = is-at setup c.loop-before.before v h (omega (arith, c.loop-before-test.true, c.requires)) c.loop-before.invariant.run in
     omega (arith, at.quanta, c.loop-before-test.true, c.requires)
 
 pub overflow_add-first : goal.overflow_add-first
@@ -65,8 +72,8 @@ overflow_add-first c =
     let h : IsSetup setup = c.count_of-inoculated.ensures.setup in
     let inoculated : c.count_of-inoculated.result ≡ length (start setup).living =
     c.count_of-inoculated.ensures.count ∙ start-count setup in
-    let v : World = c.loop-before.world.world in
-    let at : IsAt setup c.loop-before.before v = is-at setup c.loop-before.before v h (omega (arith, c.loop-before-test.true, c.requires)) c.loop-before.invariant.world in
+    let v : World = c.loop-before.run in
+    let at : IsAt setup c.loop-before.before v = is-at setup c.loop-before.before v h (omega (arith, c.loop-before-test.true, c.requires)) c.loop-before.invariant.run in
     omega (arith, at.few, inoculated, c.births.ensures)
 
 pub overflow_add-first-in-loop-before : goal.overflow_add-first-in-loop-before
@@ -75,8 +82,8 @@ overflow_add-first-in-loop-before c =
     let h : IsSetup setup = c.count_of-inoculated.ensures.setup in
     let inoculated : c.count_of-inoculated.result ≡ length (start setup).living =
     c.count_of-inoculated.ensures.count ∙ start-count setup in
-    let v : World = c.loop-before.world.world in
-    let at : IsAt setup c.loop-before.before v = is-at setup c.loop-before.before v h (omega (arith, c.loop-before-test.true, c.requires)) c.loop-before.invariant.world in
+    let v : World = c.loop-before.run in
+    let at : IsAt setup c.loop-before.before v = is-at setup c.loop-before.before v h (omega (arith, c.loop-before-test.true, c.requires)) c.loop-before.invariant.run in
     omega (arith, at.few, inoculated, c.births.ensures)
 
 pub overflow_add-next : goal.overflow_add-next
@@ -86,10 +93,10 @@ overflow_add-next c =
     let inoculated : c.count_of-inoculated.result ≡ length (start setup).living =
     c.count_of-inoculated.ensures.count ∙ start-count setup in
     let n : ℕ = c.loop-before.before in
-    let v : World = c.loop-before.world.world in
-    let w : World = c.in_ok-world-2.world.world in
+    let v : World = c.loop-before.run in
+    let w : World = c.next.new.run in
     let turn : IsTurn setup n v w =
-    is-turn setup n v w h (omega (arith, c.loop-before-test.true, c.requires)) c.loop-before.invariant.world (c.in_ok-world-2.ensures ∙ after-one v) in
+    is-turn setup n v w h (omega (arith, c.loop-before-test.true, c.requires)) c.loop-before.invariant.run c.in_ok-next.ensures in
     let at = is-at setup (n + 1) w h (omega (arith, c.loop-before-test.true, c.requires)) turn.after in
     omega (arith, at.few, inoculated, c.births-in-loop-before.ensures)
 
@@ -100,10 +107,10 @@ overflow_add-next-in-loop-before c =
     let inoculated : c.count_of-inoculated.result ≡ length (start setup).living =
     c.count_of-inoculated.ensures.count ∙ start-count setup in
     let n : ℕ = c.loop-before.before in
-    let v : World = c.loop-before.world.world in
-    let w : World = c.in_ok-world-2.world.world in
+    let v : World = c.loop-before.run in
+    let w : World = c.next.new.run in
     let turn : IsTurn setup n v w =
-    is-turn setup n v w h (omega (arith, c.loop-before-test.true, c.requires)) c.loop-before.invariant.world (c.in_ok-world-2.ensures ∙ after-one v) in
+    is-turn setup n v w h (omega (arith, c.loop-before-test.true, c.requires)) c.loop-before.invariant.run c.in_ok-next.ensures in
     let at = is-at setup (n + 1) w h (omega (arith, c.loop-before-test.true, c.requires)) turn.after in
     omega (arith, at.few, inoculated, c.births-in-loop-before.ensures)
 
@@ -117,8 +124,8 @@ pub note_births-requires-clause-living : goal.note_births-requires-clause-living
 note_births-requires-clause-living c =
     let setup : SetupFields = c.args.setup.now in
     let h : IsSetup setup = c.count_of-inoculated.ensures.setup in
-    let v : World = c.loop-before.world.world in
-    let at : IsAt setup c.loop-before.before v = is-at setup c.loop-before.before v h (omega (arith, c.loop-before-test.true, c.requires)) c.loop-before.invariant.world in
+    let v : World = c.loop-before.run in
+    let at : IsAt setup c.loop-before.before v = is-at setup c.loop-before.before v h (omega (arith, c.loop-before-test.true, c.requires)) c.loop-before.invariant.run in
     turn-living (length (start setup).living) c.loop-before.before c.loop-before.log.inoculated (run_records setup c.loop-before.before) c.loop-before.log.records
     c.loop-before.living.items v at.tracks c.loop-before.invariant.inoculated c.loop-before.invariant.records c.loop-before.invariant.living
 
@@ -128,8 +135,8 @@ note_births-requires-clause-fresh c =
     let h : IsSetup setup = c.count_of-inoculated.ensures.setup in
     let inoculated : c.count_of-inoculated.result ≡ length (start setup).living =
     c.count_of-inoculated.ensures.count ∙ start-count setup in
-    let v : World = c.loop-before.world.world in
-    let at : IsAt setup c.loop-before.before v = is-at setup c.loop-before.before v h (omega (arith, c.loop-before-test.true, c.requires)) c.loop-before.invariant.world in
+    let v : World = c.loop-before.run in
+    let at : IsAt setup c.loop-before.before v = is-at setup c.loop-before.before v h (omega (arith, c.loop-before-test.true, c.requires)) c.loop-before.invariant.run in
     λ id le. ap (λ (l : List ℕ). times_in l id) c.loop-before.invariant.living
     ∙ (sound-each_once v at.sound).fresh id (omega (arith, le, at.tracks.next_birth, inoculated, c.births.ensures))
 
@@ -140,10 +147,10 @@ note_births-requires-clause-range c =
     let inoculated : c.count_of-inoculated.result ≡ length (start setup).living =
     c.count_of-inoculated.ensures.count ∙ start-count setup in
     let n : ℕ = c.loop-before.before in
-    let v : World = c.loop-before.world.world in
-    let w : World = c.in_ok-world-2.world.world in
+    let v : World = c.loop-before.run in
+    let w : World = c.next.new.run in
     let turn : IsTurn setup n v w =
-    is-turn setup n v w h (omega (arith, c.loop-before-test.true, c.requires)) c.loop-before.invariant.world (c.in_ok-world-2.ensures ∙ after-one v) in
+    is-turn setup n v w h (omega (arith, c.loop-before-test.true, c.requires)) c.loop-before.invariant.run c.in_ok-next.ensures in
     omega (arith, c.births.ensures, c.births-in-loop-before.ensures, turn.later.births, turn.later.next_birth)
 
 pub note_deaths-requires-clause-order : goal.note_deaths-requires-clause-order
@@ -153,10 +160,10 @@ note_deaths-requires-clause-order c =
     let inoculated : c.count_of-inoculated.result ≡ length (start setup).living =
     c.count_of-inoculated.ensures.count ∙ start-count setup in
     let n : ℕ = c.loop-before.before in
-    let v : World = c.loop-before.world.world in
-    let w : World = c.in_ok-world-2.world.world in
+    let v : World = c.loop-before.run in
+    let w : World = c.next.new.run in
     let turn : IsTurn setup n v w =
-    is-turn setup n v w h (omega (arith, c.loop-before-test.true, c.requires)) c.loop-before.invariant.world (c.in_ok-world-2.ensures ∙ after-one v) in
+    is-turn setup n v w h (omega (arith, c.loop-before-test.true, c.requires)) c.loop-before.invariant.run c.in_ok-next.ensures in
     let first : ℕ = c.count_of-inoculated.result + c.births.result + 1 in
     let next : ℕ = c.count_of-inoculated.result + c.births-in-loop-before.result + 1 in
     let ids : List ℕ = range_with_len first (next - first) in
@@ -179,10 +186,10 @@ note_deaths-requires-clause-living c =
     let inoculated : c.count_of-inoculated.result ≡ length (start setup).living =
     c.count_of-inoculated.ensures.count ∙ start-count setup in
     let n : ℕ = c.loop-before.before in
-    let v : World = c.loop-before.world.world in
-    let w : World = c.in_ok-world-2.world.world in
+    let v : World = c.loop-before.run in
+    let w : World = c.next.new.run in
     let turn : IsTurn setup n v w =
-    is-turn setup n v w h (omega (arith, c.loop-before-test.true, c.requires)) c.loop-before.invariant.world (c.in_ok-world-2.ensures ∙ after-one v) in
+    is-turn setup n v w h (omega (arith, c.loop-before-test.true, c.requires)) c.loop-before.invariant.run c.in_ok-next.ensures in
     let first : ℕ = c.count_of-inoculated.result + c.births.result + 1 in
     let next : ℕ = c.count_of-inoculated.result + c.births-in-loop-before.result + 1 in
     let ids : List ℕ = range_with_len first (next - first) in
@@ -205,10 +212,10 @@ note_deaths-requires-clause-once c =
     let inoculated : c.count_of-inoculated.result ≡ length (start setup).living =
     c.count_of-inoculated.ensures.count ∙ start-count setup in
     let n : ℕ = c.loop-before.before in
-    let v : World = c.loop-before.world.world in
-    let w : World = c.in_ok-world-2.world.world in
+    let v : World = c.loop-before.run in
+    let w : World = c.next.new.run in
     let turn : IsTurn setup n v w =
-    is-turn setup n v w h (omega (arith, c.loop-before-test.true, c.requires)) c.loop-before.invariant.world (c.in_ok-world-2.ensures ∙ after-one v) in
+    is-turn setup n v w h (omega (arith, c.loop-before-test.true, c.requires)) c.loop-before.invariant.run c.in_ok-next.ensures in
     let first : ℕ = c.count_of-inoculated.result + c.births.result + 1 in
     let next : ℕ = c.count_of-inoculated.result + c.births-in-loop-before.result + 1 in
     let ids : List ℕ = range_with_len first (next - first) in
@@ -233,10 +240,10 @@ loop-before-preserved c =
     let inoculated : c.count_of-inoculated.result ≡ length (start setup).living =
     c.count_of-inoculated.ensures.count ∙ start-count setup in
     let n : ℕ = c.loop-before.before in
-    let v : World = c.loop-before.world.world in
-    let w : World = c.in_ok-world-2.world.world in
+    let v : World = c.loop-before.run in
+    let w : World = c.next.new.run in
     let turn : IsTurn setup n v w =
-    is-turn setup n v w h (omega (arith, c.loop-before-test.true, c.requires)) c.loop-before.invariant.world (c.in_ok-world-2.ensures ∙ after-one v) in
+    is-turn setup n v w h (omega (arith, c.loop-before-test.true, c.requires)) c.loop-before.invariant.run c.in_ok-next.ensures in
     let first : ℕ = c.count_of-inoculated.result + c.births.result + 1 in
     let next : ℕ = c.count_of-inoculated.result + c.births-in-loop-before.result + 1 in
     let ids : List ℕ = range_with_len first (next - first) in
@@ -258,7 +265,7 @@ loop-before-preserved c =
     noted ∙ ap (λ (l : List ℕ). c.loop-before.log.records ++ born_records l) born
     ∙ ap (λ (rs : List Record). rs ++ born_records (born_in v w)) c.loop-before.invariant.records in
     record {
-      world = turn.after;
+      run = turn.after;
       inoculated = c.in_ok-living-2.ensures.inoculated ∙ c.in_ok-note_births.ensures.inoculated ∙ c.loop-before.invariant.inoculated;
       records = dead ∙ ap (λ (l : List ℕ). c.note_births.new.log.records ++ dead_records l) seen
           ∙ ap (λ (rs : List Record). rs ++ dead_records (lived_in v w)) births
@@ -288,10 +295,10 @@ overflow_sub-died c =
     let setup : SetupFields = c.args.setup.now in
     let h : IsSetup setup = c.count_of-inoculated.ensures.setup in
     let n : ℕ = c.loop-before.before in
-    let v : World = c.loop-before.world.world in
-    let w : World = c.in_ok-world-2.world.world in
+    let v : World = c.loop-before.run in
+    let w : World = c.next.new.run in
     let turn : IsTurn setup n v w =
-    is-turn setup n v w h (omega (arith, c.loop-before-test.true, c.requires)) c.loop-before.invariant.world (c.in_ok-world-2.ensures ∙ after-one v) in
+    is-turn setup n v w h (omega (arith, c.loop-before-test.true, c.requires)) c.loop-before.invariant.run c.in_ok-next.ensures in
     let dead : v.deaths + length (dead_in v w) ≡ w.deaths = deaths-counted v w turn.sound_before turn.sound_after turn.later in
     omega (arith, dead, c.deaths-dead.ensures, c.deaths.ensures)
 
@@ -300,10 +307,10 @@ note_deaths-requires-clause-died c =
     let setup : SetupFields = c.args.setup.now in
     let h : IsSetup setup = c.count_of-inoculated.ensures.setup in
     let n : ℕ = c.loop-before.before in
-    let v : World = c.loop-before.world.world in
-    let w : World = c.in_ok-world-2.world.world in
+    let v : World = c.loop-before.run in
+    let w : World = c.next.new.run in
     let turn : IsTurn setup n v w =
-    is-turn setup n v w h (omega (arith, c.loop-before-test.true, c.requires)) c.loop-before.invariant.world (c.in_ok-world-2.ensures ∙ after-one v) in
+    is-turn setup n v w h (omega (arith, c.loop-before-test.true, c.requires)) c.loop-before.invariant.run c.in_ok-next.ensures in
     let dead : v.deaths + length (dead_in v w) ≡ w.deaths = deaths-counted v w turn.sound_before turn.sound_after turn.later in
     let inoculated : c.count_of-inoculated.result ≡ length (start setup).living =
     c.count_of-inoculated.ensures.count ∙ start-count setup in

@@ -6,8 +6,8 @@ use Rattle.run_log.proofs.population_curve.log_of_run.Given as goal
 
 abbrev pub invariant-loop-before : goal.invariant-loop-before
 invariant-loop-before l = record {
-  world : l.world.world ≡ serial l.setup l.before;
+  run : l.run ≡ serial l.setup l.before;
   inoculated : l.log.inoculated ≡ length (start l.setup).living;
   records : l.log.records ≡ run_records l.setup l.before;
-  living : l.living.items ≡ ids_of l.world.world.living;
+  living : l.living.items ≡ ids_of l.run.living;
 }
