@@ -42,7 +42,7 @@ loop-before-init c =
     let h : IsSetup setup = c.count_of-inoculated.ensures.setup in
     let inoculated : c.count_of-inoculated.result ≡ length (start setup).living =
     c.count_of-inoculated.ensures.count ∙ start-count setup in
-    let began = c.in_ok-world.ensures in
+    let began = c.in_ok-run.ensures ∙ c.in_ok-start.ensures in
     record {
       run = began ∙ sym (serial-none setup);
       inoculated = c.new-log.ensures.inoculated ∙ inoculated;
@@ -94,7 +94,7 @@ overflow_add-next c =
     c.count_of-inoculated.ensures.count ∙ start-count setup in
     let n : ℕ = c.loop-before.before in
     let v : World = c.loop-before.run in
-    let w : World = c.next.new.run in
+    let w : World = c.next.new.self in
     let turn : IsTurn setup n v w =
     is-turn setup n v w h (omega (arith, c.loop-before-test.true, c.requires)) c.loop-before.invariant.run c.in_ok-next.ensures in
     let at = is-at setup (n + 1) w h (omega (arith, c.loop-before-test.true, c.requires)) turn.after in
@@ -108,7 +108,7 @@ overflow_add-next-in-loop-before c =
     c.count_of-inoculated.ensures.count ∙ start-count setup in
     let n : ℕ = c.loop-before.before in
     let v : World = c.loop-before.run in
-    let w : World = c.next.new.run in
+    let w : World = c.next.new.self in
     let turn : IsTurn setup n v w =
     is-turn setup n v w h (omega (arith, c.loop-before-test.true, c.requires)) c.loop-before.invariant.run c.in_ok-next.ensures in
     let at = is-at setup (n + 1) w h (omega (arith, c.loop-before-test.true, c.requires)) turn.after in
@@ -148,7 +148,7 @@ note_births-requires-clause-range c =
     c.count_of-inoculated.ensures.count ∙ start-count setup in
     let n : ℕ = c.loop-before.before in
     let v : World = c.loop-before.run in
-    let w : World = c.next.new.run in
+    let w : World = c.next.new.self in
     let turn : IsTurn setup n v w =
     is-turn setup n v w h (omega (arith, c.loop-before-test.true, c.requires)) c.loop-before.invariant.run c.in_ok-next.ensures in
     omega (arith, c.births.ensures, c.births-in-loop-before.ensures, turn.later.births, turn.later.next_birth)
@@ -161,7 +161,7 @@ note_deaths-requires-clause-order c =
     c.count_of-inoculated.ensures.count ∙ start-count setup in
     let n : ℕ = c.loop-before.before in
     let v : World = c.loop-before.run in
-    let w : World = c.next.new.run in
+    let w : World = c.next.new.self in
     let turn : IsTurn setup n v w =
     is-turn setup n v w h (omega (arith, c.loop-before-test.true, c.requires)) c.loop-before.invariant.run c.in_ok-next.ensures in
     let first : ℕ = c.count_of-inoculated.result + c.births.result + 1 in
@@ -187,7 +187,7 @@ note_deaths-requires-clause-living c =
     c.count_of-inoculated.ensures.count ∙ start-count setup in
     let n : ℕ = c.loop-before.before in
     let v : World = c.loop-before.run in
-    let w : World = c.next.new.run in
+    let w : World = c.next.new.self in
     let turn : IsTurn setup n v w =
     is-turn setup n v w h (omega (arith, c.loop-before-test.true, c.requires)) c.loop-before.invariant.run c.in_ok-next.ensures in
     let first : ℕ = c.count_of-inoculated.result + c.births.result + 1 in
@@ -213,7 +213,7 @@ note_deaths-requires-clause-once c =
     c.count_of-inoculated.ensures.count ∙ start-count setup in
     let n : ℕ = c.loop-before.before in
     let v : World = c.loop-before.run in
-    let w : World = c.next.new.run in
+    let w : World = c.next.new.self in
     let turn : IsTurn setup n v w =
     is-turn setup n v w h (omega (arith, c.loop-before-test.true, c.requires)) c.loop-before.invariant.run c.in_ok-next.ensures in
     let first : ℕ = c.count_of-inoculated.result + c.births.result + 1 in
@@ -241,7 +241,7 @@ loop-before-preserved c =
     c.count_of-inoculated.ensures.count ∙ start-count setup in
     let n : ℕ = c.loop-before.before in
     let v : World = c.loop-before.run in
-    let w : World = c.next.new.run in
+    let w : World = c.next.new.self in
     let turn : IsTurn setup n v w =
     is-turn setup n v w h (omega (arith, c.loop-before-test.true, c.requires)) c.loop-before.invariant.run c.in_ok-next.ensures in
     let first : ℕ = c.count_of-inoculated.result + c.births.result + 1 in
@@ -296,7 +296,7 @@ overflow_sub-died c =
     let h : IsSetup setup = c.count_of-inoculated.ensures.setup in
     let n : ℕ = c.loop-before.before in
     let v : World = c.loop-before.run in
-    let w : World = c.next.new.run in
+    let w : World = c.next.new.self in
     let turn : IsTurn setup n v w =
     is-turn setup n v w h (omega (arith, c.loop-before-test.true, c.requires)) c.loop-before.invariant.run c.in_ok-next.ensures in
     let dead : v.deaths + length (dead_in v w) ≡ w.deaths = deaths-counted v w turn.sound_before turn.sound_after turn.later in
@@ -308,7 +308,7 @@ note_deaths-requires-clause-died c =
     let h : IsSetup setup = c.count_of-inoculated.ensures.setup in
     let n : ℕ = c.loop-before.before in
     let v : World = c.loop-before.run in
-    let w : World = c.next.new.run in
+    let w : World = c.next.new.self in
     let turn : IsTurn setup n v w =
     is-turn setup n v w h (omega (arith, c.loop-before-test.true, c.requires)) c.loop-before.invariant.run c.in_ok-next.ensures in
     let dead : v.deaths + length (dead_in v w) ≡ w.deaths = deaths-counted v w turn.sound_before turn.sound_after turn.later in

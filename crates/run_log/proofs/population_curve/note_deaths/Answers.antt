@@ -2,7 +2,6 @@ use Rattle.std.proofs.Common.{rules, ◌≡◌, ◌∙◌, ◌++◌, List, ap, l
 use Rattle.std.specs.Prelude.{filter, not}
 use Rattle.std.proofs.lemmas.List.{append-nil}
 use Rattle.run_log.specs.Curve.{lives}
-use Rattle.run_log.specs.declared.record.Record.{Record}
 use Rattle.run_log.specs.declared.record.Record.TheVariants.{Death}
 use Rattle.run_log.proofs.Numbers.{all-kept, none-left}
 use Rattle.run_log.proofs.population_curve.note_deaths.Goals as goal
