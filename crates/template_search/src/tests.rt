@@ -99,7 +99,7 @@ impl Model for Plain {
 }
 
 impl View for Plain {
-    ghost use Rattle.std.specs.Prelude.{false, length, slice_index, slice_set};
+    ghost use Rattle.std.specs.Prelude.{true, length, slice_index, slice_set};
     ghost use Rattle.std.proofs.Common.{arith, get_or-set_other, length-set, refl};
     ghost use Rattle.std.proofs.lemmas.Grind.{get_or-set_at};
     ghost use Rattle.std.proofs.lemmas.Bool.Decides.{nat_tests};
@@ -108,7 +108,7 @@ impl View for Plain {
 
     ghost cells = { λ v p. slice_index v p };
 
-    ghost writable = { λ v p. false };
+    ghost writable = { λ v p. true };
 
     ghost looked = { λ v p. v };
 
@@ -136,11 +136,11 @@ impl View for Plain {
     }
 
     fn may_write(&self, at: u32) -> bool {
-        false
+        true
     }
 
     fn set(&mut self, at: u32, value: u8) {
-        unreachable!()
+        self.cells[at as usize] = value;
     }
 
     fn row(&self) -> Option<&[u8]> {
