@@ -2,7 +2,7 @@
 
 ghost use Rattle.std.specs.Prelude.{◌≡◌, ◌<◌, ◌+◌, ◌^◌, ◌||◌, ℕ, IsTrue, ◌↔◌, IfSome};
 ghost use Rattle.tierra_model.specs.declared.limits.TheConstants.{COUNT_END};
-ghost use Rattle.tierra_model.specs.Blocks.{is_in, is_in_daughter};
+ghost use Rattle.tierra_model.specs.Blocks.{is_in_daughter};
 ghost use Rattle.tierra_model.specs.Ring.{address};
 ghost use Rattle.tierra_model.specs.Step.{copy, flip_bit};
 ghost use Rattle.cpu_core.specs.Draws.{copy_bit_of};
@@ -12,20 +12,13 @@ use crate::birth::fail;
 use crate::draws::copy_bit;
 use mutation_streams::Draws;
 use ring_math::addr;
-use tierra_model::{Act, Block, Creature, Settings, View};
-
-// Whether the block has the cell.
-fn is_in(block: Block, at: u32) -> bool
-    ensures { result ≡ is_in block at }
-{
-    block.at <= at && at - block.at < block.size
-}
+use tierra_model::{Act, Creature, Settings, View};
 
 fn is_in_daughter(creature: &Creature, at: u32) -> bool
     ensures { result ≡ is_in_daughter creature.now.daughter at }
 {
     match creature.daughter {
-        Some(block) => is_in(block, at),
+        Some(block) => block.contains(at),
         None => false,
     }
 }
@@ -60,7 +53,7 @@ pub fn mov_iab<V: View>(
 {
     let to = addr(creature.ax, settings.soup_size);
     let to_daughter = is_in_daughter(creature, to);
-    if !to_daughter && !is_in(creature.own, to) {
+    if !to_daughter && !creature.own.contains(to) {
         return fail(creature);
     }
     let from = addr(creature.bx, settings.soup_size);

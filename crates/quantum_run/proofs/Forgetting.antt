@@ -11,21 +11,20 @@ use Rattle.tierra_model.specs.declared.events.Event.TheVariants as event
 use Rattle.tierra_model.specs.Reads.{is_noted, writes}
 use Rattle.tierra_model.specs.SceneRun.{SceneRun, is_known}
 use Rattle.tierra_model.proofs.Each.{Each}
-use Rattle.quantum_run.specs.declared.cells.Mark.{Mark}
-use Rattle.quantum_run.specs.Marks.{IsUnknown, KnownAre, known_in, no_mark}
+use Rattle.quantum_run.specs.Marks.{IsUnknown, KnownAre, is_code, known_in, no_mark}
 use Rattle.quantum_run.proofs.Marked.{known-at}
 
 -- the mark of one cell is let go
-one-less : (these those : ℕ → Bool) (at : ℕ) (ms : List Mark) → KnownAre these ms → ((p : ℕ) → these p ≡ true → (p == at) ≡ false → those p ≡ true)
+one-less : (these those : ℕ → Bool) (at : ℕ) (ms : List ℕ) → KnownAre these ms → ((p : ℕ) → these p ≡ true → (p == at) ≡ false → those p ≡ true)
     → KnownAre those (slice_set ms at no_mark)
 one-less these those at ms h step p within known =
     let below : p < length ms = omega (arith, within, length-set ms at no_mark) in
     elim (eqb_tells p at) [
       | inl e ↦
           let here : get_or (slice_set ms at no_mark) p no_mark ≡ no_mark = get_or-set_at ms at p no_mark no_mark e.1 (omega (arith, e.1, below)) in
-          let no : true ≡ false = sym known ∙ ap (λ (m : Mark). m.known) here in
+          let no : true ≡ false = sym known ∙ ap is_code here in
           absurd (let n : ⊥ = cc in n)
-      | inr e ↦ step p (h p below (sym (ap (λ (m : Mark). m.known) (get_or-set_other ms at p no_mark no_mark e.1)) ∙ known)) e.0
+      | inr e ↦ step p (h p below (sym (ap is_code (get_or-set_other ms at p no_mark no_mark e.1)) ∙ known)) e.0
     ]
 
 drop-past : {X : Type 0} (xs : List X) (k : ℕ) → length xs ≤ k → drop k xs ≡ []
@@ -42,7 +41,7 @@ other : (p at : ℕ) → (p == at) ≡ false → (at == p) ≡ false
 other p at h = grind (arith, nat_tests)
 
 -- a cell that was read
-pub forget-cell : (cells : List (ℕ × ℕ)) (written : ℕ → Bool) (k : ℕ) (ms : List Mark) → k < length cells
+pub forget-cell : (cells : List (ℕ × ℕ)) (written : ℕ → Bool) (k : ℕ) (ms : List ℕ) → k < length cells
     → KnownAre (λ p. is_noted (drop k cells) p || written p) ms
     → KnownAre (λ p. is_noted (drop (k + 1) cells) p || written p) (slice_set ms (get_or cells k (0, 0)).0 no_mark)
 forget-cell cells written k ms within h =
@@ -55,7 +54,7 @@ forget-cell cells written k ms within h =
     (λ p here apart. either-other (at == p) (is_noted rest p) (written p) here (other p at apart)))
 
 -- all of them
-pub cells-forgotten : (cells : List (ℕ × ℕ)) (written : ℕ → Bool) (k : ℕ) (ms : List Mark) → length cells ≤ k
+pub cells-forgotten : (cells : List (ℕ × ℕ)) (written : ℕ → Bool) (k : ℕ) (ms : List ℕ) → length cells ≤ k
     → KnownAre (λ p. is_noted (drop k cells) p || written p) ms → KnownAre written ms
 cells-forgotten cells written k ms past h = subst (λ (l : List (ℕ × ℕ)). KnownAre (λ p. is_noted l p || written p) ms) (drop-past cells k past) h
 
@@ -64,7 +63,7 @@ either-last true b h none = cc
 either-last false b h none = h
 
 -- an event that wrote a cell
-pub forget-write : (events : List Event) (k at value : ℕ) (d : Event) (ms : List Mark) → k < length events → get_or events k d ≡ event.Write at value
+pub forget-write : (events : List Event) (k at value : ℕ) (d : Event) (ms : List ℕ) → k < length events → get_or events k d ≡ event.Write at value
     → KnownAre (λ p. list_any (writes p) (drop k events)) ms → KnownAre (λ p. list_any (writes p) (drop (k + 1) events)) (slice_set ms at no_mark)
 forget-write events k at value d ms within write h =
     let rest : List Event = drop (suc k) events in
@@ -84,7 +83,7 @@ no-write (event.Reap place) p h = refl
 no-write (event.Divide ran moved) p h = refl
 
 -- another event
-pub forget-none : (events : List Event) (k : ℕ) (d : Event) (ms : List Mark) → k < length events → ((at value : ℕ) → get_or events k d ≡ event.Write at value → ⊥)
+pub forget-none : (events : List Event) (k : ℕ) (d : Event) (ms : List ℕ) → k < length events → ((at value : ℕ) → get_or events k d ≡ event.Write at value → ⊥)
     → KnownAre (λ p. list_any (writes p) (drop k events)) ms → KnownAre (λ p. list_any (writes p) (drop (k + 1) events)) ms
 forget-none events k d ms within none h =
     let rest : List Event = drop (suc k) events in
@@ -94,21 +93,21 @@ forget-none events k d ms within none h =
     (λ p below here. either-last (writes p e) (list_any (writes p) rest) (known p below here) (no-write e p none))
 
 -- in the end no cell is known
-all-forgotten : (these : ℕ → Bool) (ms : List Mark) → ((p : ℕ) → these p ≡ false) → KnownAre these ms → Each IsUnknown ms
+all-forgotten : (these : ℕ → Bool) (ms : List ℕ) → ((p : ℕ) → these p ≡ false) → KnownAre these ms → Each IsUnknown ms
 all-forgotten these [] none h = tt
-all-forgotten these (m ∷ ms) none h = (first m.known refl, all-forgotten (λ p. these (suc p)) ms (λ p. none (suc p)) (λ p below here. h (suc p) (omega (arith, below)) here))
+all-forgotten these (m ∷ ms) none h = (first (is_code m) refl, all-forgotten (λ p. these (suc p)) ms (λ p. none (suc p)) (λ p below here. h (suc p) (omega (arith, below)) here))
   where
-    first : (b : Bool) → m.known ≡ b → m.known ≡ false
+    first : (b : Bool) → is_code m ≡ b → is_code m ≡ false
     first true known = absurd (let yes : these 0 ≡ true = h 0 (omega arith) known in let no : these 0 ≡ false = none 0 in let n : ⊥ = cc in n)
     first false known = known
 
-pub events-forgotten : (events : List Event) (k : ℕ) (ms : List Mark) → length events ≤ k → KnownAre (λ p. list_any (writes p) (drop k events)) ms → Each IsUnknown ms
+pub events-forgotten : (events : List Event) (k : ℕ) (ms : List ℕ) → length events ≤ k → KnownAre (λ p. list_any (writes p) (drop k events)) ms → Each IsUnknown ms
 events-forgotten events k ms past h =
     all-forgotten (λ p. list_any (writes p) (drop k events)) ms (λ p. ap (list_any (writes p)) (drop-past events k past)) h
 
 -- what the marks know is what the run knows
-pub known-are : (x : SceneRun) (known : List Bool) (size : ℕ) (ms : List Mark) → known_in ms ≡ known → length known ≡ size
+pub known-are : (x : SceneRun) (known : List Bool) (size : ℕ) (ms : List ℕ) → known_in ms ≡ known → length known ≡ size
     → ((p : ℕ) → p < size → slice_index_or known p false ≡ is_known x p) → KnownAre (is_known x) ms
 known-are x known size ms is long h p below here =
-    let within : p < size = omega (arith, below, long, ap length is, length-map ms (λ (m : Mark). m.known)) in
+    let within : p < size = omega (arith, below, long, ap length is, length-map ms is_code) in
     sym (h p within) ∙ ap (λ (l : List Bool). slice_index_or l p false) (sym is) ∙ known-at ms p below ∙ here

@@ -4,7 +4,7 @@ ghost use Rattle.std.specs.Prelude.{◌≡◌, ◌<◌, ◌^◌, vec_capacity, v
 ghost use Rattle.tierra_model.specs.declared.limits.TheConstants.{COUNT_END, MOST_SLICE};
 ghost use Rattle.quantum_run.specs.OnScene.{events_after, yard_after};
 
-use crate::cells::{Cells, Mark, forget};
+use crate::cells::{Cells, forget};
 use crate::free_cells::FreeCells;
 use crate::job::Job;
 use crate::outcome::Outcome;
@@ -79,7 +79,7 @@ impl<'a> OnScene<'a> {
     pub(crate) fn new(
         job: &'a Job,
         slice: u32,
-        marks: Vec<Mark>,
+        marks: Vec<u8>,
         copies: Copies,
         lists: Lists,
     ) -> Result<OnScene<'a>, OutOfMemory>
@@ -110,7 +110,7 @@ impl<'a> OnScene<'a> {
     }
 
     /// What the quantum leaves, once it has run; the marks, by which no cell is known any more; and the room of the copies.
-    pub(crate) fn into_outcome(self) -> (Outcome, Vec<Mark>, Copies)
+    pub(crate) fn into_outcome(self) -> (Outcome, Vec<u8>, Copies)
         requires ready { SceneReady self 0 }
         requires run { self.run ≡ run_in_scene self.run.start }
         ensures outcome { IsOutcome self.entry.run.start result.0 }

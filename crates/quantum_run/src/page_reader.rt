@@ -2,11 +2,8 @@
 
 ghost use Rattle.std.specs.Prelude.{◌≡◌, ◌<◌, length, slice_index};
 
-use soup_cells::Version;
+use soup_cells::{PAGE, Version};
 use std::marker::Model;
-
-/// How many cells a page has.
-const PAGE: u32 = 4096;
 
 /// A version of the soup, with the page at hand that was looked into last. Most looks are near the one before.
 #[derive(Drop)]
@@ -52,6 +49,7 @@ impl<'a> PageReader<'a> {
     pub(crate) fn get(&mut self, at: u32) -> u8
         requires { at < length self.old }
         ensures value { result ≡ slice_index self.old at }
+        ensures code { result < 32 }
         ensures same { self.new ≡ self.old }
     {
         if at >= self.first {
@@ -69,6 +67,7 @@ impl<'a> PageReader<'a> {
     fn turn_to(&mut self, at: u32) -> u8
         requires { at < length self.old }
         ensures value { result ≡ slice_index self.old at }
+        ensures code { result < 32 }
         ensures same { self.new ≡ self.old }
     {
         let number = at / PAGE;

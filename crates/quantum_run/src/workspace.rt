@@ -8,7 +8,7 @@ ghost use Rattle.tierra_model.specs.Quantum as quantum;
 ghost use Rattle.quantum_run.specs.Found.{IsFound};
 ghost use Rattle.quantum_run.specs.Outcomes.{IsOutcome};
 
-use crate::cells::{Mark, UNKNOWN};
+use crate::cells::UNKNOWN;
 use crate::finding::Finding;
 use crate::job::Job;
 use crate::on_scene::OnScene;
@@ -26,7 +26,7 @@ use tierra_model::OutOfMemory;
 /// lists and of findings that are done with. So in the long run no quantum takes memory.
 #[derive(Drop)]
 pub struct Workspace {
-    marks: Vec<Mark>,
+    marks: Vec<u8>,
     copies: Copies,
     rooms: Vec<Room>,
     ghost kept: { All IsUnknown marks.items },
@@ -113,7 +113,7 @@ impl Workspace {
     }
 
     // The marks of a soup of `size` cells; new ones where these are of another soup.
-    fn take_marks(&mut self, size: u32) -> Result<Vec<Mark>, OutOfMemory>
+    fn take_marks(&mut self, size: u32) -> Result<Vec<u8>, OutOfMemory>
         ensures size { IfOk result (λ marks. length marks.items ≡ size) }
         ensures fresh { IfOk result (λ marks. Each IsUnknown marks.items) }
     {

@@ -15,13 +15,11 @@ ghost use Rattle.world_core.specs.Running.{IsRunning};
 ghost use Rattle.serial_slicer.specs.Turns.{IsTurn};
 
 use mutation_streams::Draws;
+use soup_cells::PAGE;
 use std::alloc::Global;
 use std::marker::Model;
 use tierra_model::{Block, Creature, OutOfMemory, Settings, View};
 use world_core::Running;
-
-/// How many cells are made ready together.
-const PAGE: u32 = 4096;
 
 /// A running world that is nowhere else, so all its cells can be set: in the blocks of the creature whose turn it is.
 #[derive(Drop)]
@@ -78,7 +76,7 @@ impl View for Sole {
     }
 
     fn may_write(&self, at: u32) -> bool {
-        has(self.own, at) || self.daughter.is_some_and(|block| has(block, at))
+        self.own.contains(at) || self.daughter.is_some_and(|block| block.contains(at))
     }
 
     fn set(&mut self, at: u32, value: u8) {
@@ -88,15 +86,6 @@ impl View for Sole {
     fn row(&self) -> Option<&[u8]> {
         Some(self.running.row())
     }
-}
-
-ghost use Rattle.tierra_model.specs.Blocks.{is_in};
-
-// Whether the block has the cell.
-fn has(block: Block, at: u32) -> bool
-    ensures { result ≡ is_in block at }
-{
-    block.at <= at && at - block.at < block.size
 }
 
 impl Sole {

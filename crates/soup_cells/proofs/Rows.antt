@@ -4,13 +4,13 @@ use Rattle.std.proofs.lemmas.List.{get_or-replicate, length-set}
 use Rattle.soup_cells.specs.Cells.{Cells, is_ready}
 
 abbrev uncut : List ℕ → Cells
-uncut row = record { cells = row; own = replicate ((length row + 4095) / 4096) true }
+uncut row = record { cells = row; own = replicate ((length row + 16383) / 16384) true }
 
 pub row-ready : (row : List ℕ) (at : ℕ) → at < length row → is_ready (uncut row) at ≡ true
 unfolding is_ready
-row-ready row at l = get_or-replicate ((length row + 4095) / 4096) (at / 4096) true false (omega arith)
+row-ready row at l = get_or-replicate ((length row + 16383) / 16384) (at / 16384) true false (omega arith)
 
 pub row-set : (row : List ℕ) (at v p : ℕ) → is_ready (uncut (set row at v)) p ≡ is_ready (uncut row) p
 unfolding is_ready
 row-set row at v p =
-    ap (λ (n : ℕ). get_or (replicate ((n + 4095) / 4096) true) (p / 4096) false) (length-set row at v)
+    ap (λ (n : ℕ). get_or (replicate ((n + 16383) / 16384) true) (p / 16384) false) (length-set row at v)

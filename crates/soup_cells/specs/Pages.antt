@@ -25,13 +25,10 @@ is_own (Shared cells) = false
 abbrev pub cells_of : List Page → List ℕ
 cells_of pages = concat (map page_cells pages)
 
-abbrev pub cells_of_shared : List SharedPage → List ℕ
-cells_of_shared pages = concat (map shared_cells pages)
-
--- the pages of n cells: each has 4096, but the last may have fewer
+-- the pages of n cells: each has 16384, but the last may have fewer
 abbrev pub ArePages : ℕ → List (List ℕ) → Type 0
 ArePages n [] = n ≡ 0
-ArePages n (page ∷ pages) = (0 < n) × (length page ≡ min 4096 n) × ArePages (n - 4096) pages
+ArePages n (page ∷ pages) = (0 < n) × (length page ≡ min 16384 n) × ArePages (n - 16384) pages
 
 -- the pages of n cells, each with an instruction's code
 pub record AreCells (n : ℕ) (pages : List (List ℕ)) : Type 0 where

@@ -17,7 +17,7 @@ AreIn row paging = IfSome (cells_in paging) (λ cells. cells ≡ row)
 
 -- for each page of the row whether it is the soup's own: all are that are not cut, and none that are shared
 abbrev pub own_of : List ℕ → Paging → List Bool
-own_of row Uncut = replicate ((length row + 4095) / 4096) true
+own_of row Uncut = replicate ((length row + 16383) / 16384) true
 own_of row (Own pages) = pages.own
 own_of row (Shared pages) = []
 

@@ -7,5 +7,6 @@ mod row;
 mod soup;
 mod version;
 
+pub use page::PAGE;
 pub use soup::Soup;
 pub use version::Version;

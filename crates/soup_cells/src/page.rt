@@ -8,8 +8,11 @@ use std::mem;
 use std::sync::Arc;
 use tierra_model::OutOfMemory;
 
-/// How many cells a page has.
-pub(crate) const PAGE: usize = 4096;
+/// How many cells a page has. The last of a soup may have fewer.
+pub const PAGE: u32 = 16384;
+
+/// The same, as an index counts.
+pub(crate) const PAGE_LEN: usize = PAGE as usize;
 
 /// A page of a soup: its own, so that its cells can be set, or one that versions have too.
 #[derive(Drop)]

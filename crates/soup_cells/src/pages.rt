@@ -4,7 +4,7 @@ ghost use Rattle.std.specs.Prelude.{◌≡◌, ◌+◌, ◌*◌, ◌<◌, ◌^�
 ghost use Rattle.soup_cells.specs.Cells.{is_ready};
 ghost use Rattle.soup_cells.specs.Pages.{page_cells};
 
-use crate::page::{PAGE, Page};
+use crate::page::{PAGE_LEN, Page};
 use std::alloc::Global;
 use std::marker::Model;
 use tierra_model::OutOfMemory;
@@ -52,12 +52,12 @@ impl Pages {
         requires codes { All (λ v. v < 32) cells.now }
         ensures { IfOk result (λ s. s.cells ≡ cells.now) }
     {
-        let count = cells.len().div_ceil(PAGE);
+        let count = cells.len().div_ceil(PAGE_LEN);
         let mut pages = Vec::with_capacity(alloc, count)?;
         let mut unshared = Vec::with_capacity(alloc, count)?;
         for number in 0..count {
-            let start = PAGE * number;
-            let end = cells.len().min(start + PAGE);
+            let start = PAGE_LEN * number;
+            let end = cells.len().min(start + PAGE_LEN);
             pages.push(Page::Own(Vec::from_slice(alloc, &cells[start..end])?))?;
             unshared.push(number)?;
         }
@@ -75,7 +75,7 @@ impl Pages {
         ensures code { result < 32 }
     {
         let at = at as usize;
-        self.pages[at / PAGE].get(at % PAGE)
+        self.pages[at / PAGE_LEN].get(at % PAGE_LEN)
     }
 
     /// Makes a cell ready, so that it can be set without memory.
@@ -85,8 +85,8 @@ impl Pages {
         ensures ok { OnOk result (is_ready self.new at ≡ true) }
         ensures kept { (p : ℕ) → is_ready self.old p ≡ true → is_ready self.new p ≡ true }
     {
-        note_shared(&mut self.unshared, &self.pages, at as usize / PAGE);
-        self.pages[at as usize / PAGE].make_own()
+        note_shared(&mut self.unshared, &self.pages, at as usize / PAGE_LEN);
+        self.pages[at as usize / PAGE_LEN].make_own()
     }
 
     /// Sets a cell that is ready.
@@ -98,7 +98,7 @@ impl Pages {
         ensures ready { (p : ℕ) → is_ready self.new p ≡ is_ready self.old p }
     {
         let at = at as usize;
-        self.pages[at / PAGE].set(at % PAGE, value);
+        self.pages[at / PAGE_LEN].set(at % PAGE_LEN, value);
     }
 
     /// How many cells there are.
@@ -108,11 +108,12 @@ impl Pages {
         self.size
     }
 
-    /// The cells of a page of 4096, of which the last may have fewer.
+    /// The cells of a page of 16384, of which the last may have fewer.
     pub(crate) fn page(&self, number: u32) -> &[u8]
-        requires { 4096 * number < length self.now.cells }
-        ensures { result.now ≡ slice_range self.now.cells (4096 * number)
-            (min (4096 * number + 4096) (length self.now.cells)) }
+        requires { 16384 * number < length self.now.cells }
+        ensures cells { result.now ≡ slice_range self.now.cells (16384 * number)
+            (min (16384 * number + 16384) (length self.now.cells)) }
+        ensures codes { (p : ℕ) → p < length result.now → slice_index result.now p < 32 }
     {
         self.pages[number as usize].cells()
     }

@@ -200,21 +200,21 @@ mod tests {
 
     #[test]
     fn a_version_keeps_its_cells(rt: HostRuntime) -> Result<(), Fail> {
-        let mut soup = Soup::new(rt.alloc(), 10_000)?;
+        let mut soup = Soup::new(rt.alloc(), 40_000)?;
         let first = soup.version()?;
-        soup.ready(4095)?;
-        soup.ready(4096)?;
-        soup.set(4095, 7);
-        soup.set(4096, 9);
+        soup.ready(16383)?;
+        soup.ready(16384)?;
+        soup.set(16383, 7);
+        soup.set(16384, 9);
         let second = for_threads(soup.version()?);
-        soup.ready(4095)?;
-        soup.set(4095, 3);
-        assert_eq!(rt; (first.get(4095), first.get(4096)), (0, 0));
-        assert_eq!(rt; (second.get(4095), second.get(4096)), (7, 9));
-        assert_eq!(rt; (soup.get(4095), soup.get(4096)), (3, 9));
+        soup.ready(16383)?;
+        soup.set(16383, 3);
+        assert_eq!(rt; (first.get(16383), first.get(16384)), (0, 0));
+        assert_eq!(rt; (second.get(16383), second.get(16384)), (7, 9));
+        assert_eq!(rt; (soup.get(16383), soup.get(16384)), (3, 9));
         assert_eq!(rt;
-            (second.size(), second.page(0)[4095], second.page(2).len()),
-            (10_000, 7, 1808)
+            (second.size(), second.page(0)[16383], second.page(2).len()),
+            (40_000, 7, 7232)
         );
         Ok(())
     }

@@ -1,6 +1,6 @@
 //! Versions of a soup.
 
-ghost use Rattle.std.specs.Prelude.{◌≡◌, ◌+◌, ◌*◌, ◌<◌, length, min, slice_index, slice_range};
+ghost use Rattle.std.specs.Prelude.{◌≡◌, ◌+◌, ◌*◌, ◌<◌, ℕ, length, min, slice_index, slice_range};
 ghost use Rattle.std.specs.Arc.{arc_value};
 
 use crate::pages::Pages;
@@ -45,10 +45,12 @@ impl Version {
         self.pages.size()
     }
 
-    /// The cells of a page of 4096, of which the last may have fewer.
+    /// The cells of a page of 16384, of which the last may have fewer.
     pub fn page(&self, number: u32) -> &[u8]
-        requires { 4096 * number < length self.now }
-        ensures { result.now ≡ slice_range self.now (4096 * number) (min (4096 * number + 4096) (length self.now)) }
+        requires { 16384 * number < length self.now }
+        ensures cells { result.now
+            ≡ slice_range self.now (16384 * number) (min (16384 * number + 16384) (length self.now)) }
+        ensures codes { (p : ℕ) → p < length result.now → slice_index result.now p < 32 }
     {
         self.pages.page(number)
     }

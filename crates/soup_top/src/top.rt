@@ -226,10 +226,10 @@ pub fn tierra<R: Threads + Wait + Sync, S: Source, D: Desk, G: Gate + Sync>(
         DiskIsOfHistory setup (D.state desk.old).reads (D.state desk.old).may_leave
         → EachMoment (D.state desk.old) (D.state desk.new) (IsTrueMoment setup n (D.state desk.old).told)) }
 
-    // Where the file had groups of the setup, or none yet, a crash at every moment of a run, whatever it answers, leaves
-    // what the file might have said at the start, and nothing was told since; or it leaves those groups, and of the
-    // run's first k those that they lack, and the first k fit. Then all lines before those of group k were told, and
-    // none of a later group.
+    // Where the file had groups of the setup, or none yet, there are two cases at every moment of a run, whatever it
+    // answers. A crash leaves what it might have left at the start, and nothing was told since. Or it leaves those groups
+    // and, of the run's first k groups, those that were lacking. Then these k fit, the lines of the first k - 1 were told,
+    // and no line after that of group k.
     ensures kept_up { EachRun (texts_of words.now) (S.left source.old) (λ setup n.
         IfSome (D.state desk.old).reads (λ file. (had : List GroupFields) → HasGroups setup had file
         → EachMoment (D.state desk.old) (D.state desk.new)
@@ -254,8 +254,9 @@ pub fn tierra<R: Threads + Wait + Sync, S: Source, D: Desk, G: Gate + Sync>(
     ensures cause { Cause (texts_of words.now) (S.left source.old) (D.state desk.old).reads (0 < S.faults source.new)
         (0 < (D.state desk.new).disk_faults) (0 < (D.state desk.new).tell_faults) result }
 
-    // Without a fault, accepted words and bytes, for a run a disk of its history, and for one with checkpoints a
-    // desk that tells its file, which is not beyond, and states that are not too large, give Done or want of memory.
+    // Accepted words and bytes give Done or want of memory where no call failed. A run needs a disk of its history
+    // besides. One with checkpoints needs a file that can be read and does not go beyond the run, and states that are
+    // not too large.
     ensures complete { (order : Order) (bytes text : List ℕ) → AsksFor (texts_of words.now) order
         → read_by (kind_of order) (S.left source.old) (D.state desk.old).reads ≡ Some bytes
         → IsTextOf order bytes (D.state desk.old).reads text
@@ -264,8 +265,8 @@ pub fn tierra<R: Threads + Wait + Sync, S: Source, D: Desk, G: Gate + Sync>(
         → S.faults source.new ≡ 0 → (D.state desk.new).disk_faults ≡ 0 → (D.state desk.new).tell_faults ≡ 0
         → (result ≡ Status.Done) ⊎ (result ≡ Status.OutOfMemory) }
 
-    // Whatever comes, what was told begins that text. At an answer other than Done and a failed tell nothing was told,
-    // or some of it is lacking. Words and a source that are refused, and a read that failed, leave the desk alone.
+    // Whatever the answer, what was told is the beginning of that text. At any answer but Done and a failed tell, nothing
+    // was told or some of the text is lacking. Refused words, a refused source and a failed read leave the desk alone.
     ensures prefix { IsToldInPart (texts_of words.now) (S.left source.old) (D.state desk.old).reads
         (D.state desk.old).told (D.state desk.new).told }
     ensures unfinished { OnStopped result (IsUnfinished (texts_of words.now) (S.left source.old)

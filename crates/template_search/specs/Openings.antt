@@ -1,5 +1,5 @@
 -- The first cells of a template's complement, beside a row of cells.
-use Rattle.std.specs.Prelude.{List, [], get_or, if◌then◌else◌, length, min, nat_lt, slice_index, ℕ, ◌+◌, ◌-◌, ◌<◌, ◌≡◌, ◌∷◌}
+use Rattle.std.specs.Prelude.{List, [], bit_xor, get_or, if◌then◌else◌, length, min, nat_lt, slice_index, ℕ, ◌+◌, ◌<◌, ◌≡◌, ◌∷◌}
 use Rattle.std.specs.Int.{from_le_bytes, w64}
 use Rattle.template_search.specs.declared.opening.Opening.{Opening}
 
@@ -7,9 +7,9 @@ use Rattle.template_search.specs.declared.opening.Opening.{Opening}
 abbrev pub packed : (ℕ → ℕ) → ℕ
 packed f = from_le_bytes w64 (f 0 ∷ f 1 ∷ f 2 ∷ f 3 ∷ f 4 ∷ f 5 ∷ f 6 ∷ f 7 ∷ [])
 
--- cell j of a template's complement, and 0 where the template has none
+-- cell j of a template's complement, which is the other nop, and 0 where the template has none
 abbrev pub complement_at : List ℕ → ℕ → ℕ
-complement_at vs j = if nat_lt j (length vs) then 1 - get_or vs j 0 else 0
+complement_at vs j = if nat_lt j (length vs) then bit_xor (get_or vs j 0) 1 else 0
 
 -- 255 where the template has a cell j
 abbrev pub mask_at : List ℕ → ℕ → ℕ
@@ -19,6 +19,7 @@ pub record IsOpening (vs : List ℕ) (o : Opening) : Type 0 where
   pub cells : o.cells ≡ packed (complement_at vs)
   pub mask : o.mask ≡ packed (mask_at vs)
 
--- the first eight cells from place on, or as many as the template has, are not its complement
-abbrev pub Differs : List ℕ → List ℕ → ℕ → Type 0
-Differs vs row place = ((j : ℕ) → j < min 8 (length vs) → get_or vs j 0 + slice_index row (place + j) ≡ 1) → ⊥
+-- The first eight cells from place on, or as many as the template has, are known, and are not its complement.
+pub record Differs (vs row : List ℕ) (place : ℕ) : Type 0 where
+  pub known : (j : ℕ) → j < min 8 (length vs) → slice_index row (place + j) < 32
+  pub other : ((j : ℕ) → j < min 8 (length vs) → get_or vs j 0 + slice_index row (place + j) ≡ 1) → ⊥

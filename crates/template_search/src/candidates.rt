@@ -61,7 +61,7 @@ fn differ<V: View>(view: &V, nops: &[u8], course: Course, opening: Opening, pair
 {
     match view.row() {
         Some(row) => match course.way {
-            Way::Outward => opening.differs(row, pair.ahead) && opening.differs(row, pair.behind),
+            Way::Outward => opening.both_differ(row, pair.ahead, pair.behind),
             Way::Forward => opening.differs(row, pair.ahead),
             Way::Backward => opening.differs(row, pair.behind),
         },

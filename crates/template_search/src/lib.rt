@@ -20,6 +20,7 @@ ghost use Rattle.template_search.specs.Places.{IfAt};
 
 use crate::candidates::Course;
 use crate::nearest::nearest;
+use crate::opening::Opening;
 use crate::places::{next_place, place_at};
 use crate::template::read_template;
 use tierra_model::View;
@@ -42,7 +43,8 @@ pub fn search<V: View>(view: &mut V, ip: u32, way: Way, limit: u32, min: u32) ->
         return Found::Short;
     }
     let nops = &template.cells[..template.len as usize];
-    match nearest(view, nops, Course { ip, way, size }, limit) {
+    let opening = Opening::of(&template);
+    match nearest(view, nops, opening, Course { ip, way, size }, limit) {
         Some(start) => Found::At(place_at(start + template.len, size)),
         None => Found::NoMatch,
     }

@@ -4,6 +4,7 @@ ghost use Rattle.std.specs.Prelude.{◌≡◌, ◌<◌, ◌≤◌, ◌+◌, ◌-
 ghost use Rattle.tierra_model.specs.declared.limits.TheConstants.{MOST_CELLS};
 ghost use Rattle.tierra_model.specs.Look.{Passes};
 ghost use Rattle.tierra_model.specs.Search.{candidates, try_each};
+ghost use Rattle.template_search.specs.Openings.{IsOpening};
 ghost use Rattle.template_search.specs.Reaching.{Reaches};
 
 use crate::candidates::{Course, Pair, match_in_row, match_near};
@@ -12,7 +13,14 @@ use crate::places::{next_place, place_at, previous_place};
 use tierra_model::{View, Way};
 
 /// The nearest candidate that is a complement, at a distance of 1 to `limit`. Each way has a loop of its own.
-pub fn nearest<V: View>(view: &mut V, nops: &[u8], course: Course, limit: u32) -> Option<u32>
+pub fn nearest<V: View>(
+    view: &mut V,
+    nops: &[u8],
+    opening: Opening,
+    course: Course,
+    limit: u32,
+) -> Option<u32>
+    requires opening { IsOpening nops.now opening }
     requires ip { course.ip < course.size }
     requires size { course.size ≡ V.size view.old }
     requires cells { course.size ≤ MOST_CELLS }
@@ -25,6 +33,7 @@ pub fn nearest<V: View>(view: &mut V, nops: &[u8], course: Course, limit: u32) -
         Way::Outward => nearest_on(
             view,
             nops,
+            opening,
             Course {
                 way: Way::Outward,
                 ..course
@@ -34,6 +43,7 @@ pub fn nearest<V: View>(view: &mut V, nops: &[u8], course: Course, limit: u32) -
         Way::Forward => nearest_on(
             view,
             nops,
+            opening,
             Course {
                 way: Way::Forward,
                 ..course
@@ -43,6 +53,7 @@ pub fn nearest<V: View>(view: &mut V, nops: &[u8], course: Course, limit: u32) -
         Way::Backward => nearest_on(
             view,
             nops,
+            opening,
             Course {
                 way: Way::Backward,
                 ..course
@@ -53,7 +64,14 @@ pub fn nearest<V: View>(view: &mut V, nops: &[u8], course: Course, limit: u32) -
 }
 
 #[inline(always)]
-fn nearest_on<V: View>(view: &mut V, nops: &[u8], course: Course, limit: u32) -> Option<u32>
+fn nearest_on<V: View>(
+    view: &mut V,
+    nops: &[u8],
+    opening: Opening,
+    course: Course,
+    limit: u32,
+) -> Option<u32>
+    requires opening { IsOpening nops.now opening }
     requires ip { course.ip < course.size }
     requires size { course.size ≡ V.size view.old }
     requires cells { course.size ≤ MOST_CELLS }
@@ -67,7 +85,14 @@ fn nearest_on<V: View>(view: &mut V, nops: &[u8], course: Course, limit: u32) ->
     let ahead = place_at(course.ip + (len + 1), size);
     let behind = place_at(course.ip + 1 + (size - place_at(len + 1, size)), size);
     let straight = straight_distances(view, Pair { ahead, behind }, limit);
-    if let Some(start) = nearest_straight(view, nops, course, Pair { ahead, behind }, straight) {
+    if let Some(start) = nearest_straight(
+        view,
+        nops,
+        opening,
+        course,
+        Pair { ahead, behind },
+        straight,
+    ) {
         return Some(start);
     }
     let next = Pair {
@@ -103,10 +128,12 @@ fn straight_distances<V: View>(view: &V, first: Pair, limit: u32) -> u32
 fn nearest_straight<V: View>(
     view: &mut V,
     nops: &[u8],
+    opening: Opening,
     course: Course,
     first: Pair,
     straight: u32,
 ) -> Option<u32>
+    requires opening { IsOpening nops.now opening }
     requires size { course.size ≡ V.size view.old }
     requires behind { first.behind < course.size }
     requires places { Reaches course.size course.ip (length nops.now) 1 first.ahead first.behind }
@@ -118,7 +145,6 @@ fn nearest_straight<V: View>(
     ensures below { IfSome result (λ p. p < course.size) }
     ensures same { V.size view.new ≡ course.size }
 {
-    let opening = Opening::of(nops);
     for near in 0..straight {
         let pair = Pair {
             ahead: first.ahead + near,

@@ -1,7 +1,15 @@
-//! The first cells of a template's complement, compared with a row of cells all at once.
+//! The first cells of a template's complement, compared all at once with what is known of cells in a row.
 
-ghost use Rattle.std.specs.Prelude.{◌≡◌, ◌+◌, ◌≤◌, List, ℕ, length, slice_index, true};
-ghost use Rattle.template_search.specs.Openings.{Differs, IsOpening, complement_at, mask_at, packed};
+ghost use Rattle.std.specs.Prelude.{◌≡◌, ◌+◌, ◌<◌, ◌≤◌, ◌^◌, List, ℕ, length, slice_index, take, true};
+ghost use Rattle.template_search.specs.Openings.{Differs, IsOpening, mask_at, packed};
+
+use crate::template::Template;
+
+/// What makes each nop the other one, in each of eight bytes.
+const OTHER_NOPS: u64 = 0x0101_0101_0101_0101;
+
+/// The bits that no instruction's code has, in each of eight bytes.
+const NO_CODE: u64 = 0xE0E0_E0E0_E0E0_E0E0;
 
 /// The first eight cells of a template's complement, or all that it has, as the bytes of a number, the first cell the
 /// lowest. The mask has 255 for each of them.
@@ -12,64 +20,61 @@ pub struct Opening {
 }
 
 impl Opening {
-    /// The opening of the complement of these nops.
-    pub fn of(nops: &[u8]) -> Opening
-        ensures { IsOpening nops.now result }
+    /// The opening of a template's complement.
+    pub fn of(template: &Template) -> Opening
+        ensures { IsOpening (take template.now.len template.now.cells) result }
     {
+        let mask = mask_of(template.len);
+        let nops = word_at(&template.cells, 0);
         Opening {
-            cells: u64::from_le_bytes([
-                complement_at(nops, 0),
-                complement_at(nops, 1),
-                complement_at(nops, 2),
-                complement_at(nops, 3),
-                complement_at(nops, 4),
-                complement_at(nops, 5),
-                complement_at(nops, 6),
-                complement_at(nops, 7),
-            ]),
-            mask: u64::from_le_bytes([
-                mask_at(nops, 0),
-                mask_at(nops, 1),
-                mask_at(nops, 2),
-                mask_at(nops, 3),
-                mask_at(nops, 4),
-                mask_at(nops, 5),
-                mask_at(nops, 6),
-                mask_at(nops, 7),
-            ]),
+            cells: (nops ^ OTHER_NOPS) & mask,
+            mask,
         }
     }
 
-    /// Whether one of these cells differs from the row's from `place` on.
+    /// Whether the row tells that its cells from `place` on are others: all of them are known, and one of them differs.
     #[inline]
     pub fn differs(self, row: &[u8], place: u32) -> bool
         requires { place + 8 ≤ length row.now }
         ensures { (vs : List ℕ) → IsOpening vs self → result ≡ true → Differs vs row.now place }
     {
-        word_at(row, place as usize) & self.mask != self.cells
+        let seen = word_at(row, place as usize) & self.mask;
+        seen != self.cells && seen & NO_CODE == 0
+    }
+
+    /// The same of two places at once.
+    #[inline]
+    pub fn both_differ(self, row: &[u8], first: u32, second: u32) -> bool
+        requires first { first + 8 ≤ length row.now }
+        requires second { second + 8 ≤ length row.now }
+        ensures { (vs : List ℕ) → IsOpening vs self → result ≡ true
+            → Differs vs row.now first × Differs vs row.now second }
+    {
+        let one = word_at(row, first as usize) & self.mask;
+        let other = word_at(row, second as usize) & self.mask;
+        if (one & NO_CODE) | (other & NO_CODE) != 0 {
+            return false;
+        }
+        one != self.cells && other != self.cells
     }
 }
 
-// The cell of the complement, and 0 where the template has none.
-fn complement_at(nops: &[u8], place: usize) -> u8
-    ensures { result ≡ complement_at nops.now place }
+// 255 in each of the bytes of so many cells, of eight bytes.
+fn mask_of(len: u32) -> u64
+    ensures { (vs : List ℕ) → length vs ≡ len → result ≡ packed (mask_at vs) }
 {
-    match nops.get(place) {
-        Some(nop) => 1u8.saturating_sub(*nop),
-        None => 0,
+    if len < 8 {
+        (1 << (8 * len)) - 1
+    } else {
+        u64::MAX
     }
-}
-
-fn mask_at(nops: &[u8], place: usize) -> u8
-    ensures { result ≡ mask_at nops.now place }
-{
-    if place < nops.len() { 255 } else { 0 }
 }
 
 // The eight cells of the row from `place` on.
 fn word_at(row: &[u8], place: usize) -> u64
     requires { place + 8 ≤ length row.now }
-    ensures { result ≡ packed (λ j. slice_index row.now (place + j)) }
+    ensures word { result ≡ packed (λ j. slice_index row.now (place + j)) }
+    ensures bytes { (j : ℕ) → slice_index row.now j < 2 ^ 8 }
 {
     u64::from_le_bytes([
         row[place],

@@ -1,4 +1,4 @@
--- The disturbance of a sound world counts the living, since its reaper list is as long.
+-- The disturbance of a sound world counts the living, since its reaper queue is as long.
 use Rattle.std.proofs.Common.{◌≡◌, ℕ, ◌+◌, ◌*◌, ◌/◌, ◌≤◌, List, [], ◌∷◌, refl, sym, ◌∙◌, ap, arith, inl, inr, length}
 use Rattle.std.specs.Prelude.{Some, None, Option, not, filter, ◌==◌}
 use Rattle.std.proofs.lemmas.List.{length-map}

@@ -1,4 +1,4 @@
--- Each creature is in the reaper list once, no number to come is taken, and each cell has one owner at most: as records are
+-- Each creature is in the reaper queue once, no number to come is taken, and each cell has one owner at most: as records are
 -- put in, and creatures come and go.
 use Rattle.std.proofs.Common.{◌≡◌, ℕ, ◌+◌, ◌<◌, ◌≤◌, true, List, [], ◌∷◌, ◌++◌, refl, sym, ◌∙◌, ap, subst, arith, inl, inr, length, length-append}
 use Rattle.std.specs.Prelude.{Some, None, Option, unwrap_or, ◌==◌, slice_index, slice_range}

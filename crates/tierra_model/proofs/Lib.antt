@@ -33,6 +33,7 @@ pub mod EventEffects
 pub mod AnyMachine
 pub mod Operations
 pub mod Simulation
+pub mod PlainInstruction
 -- sound worlds
 pub mod Population
 pub mod WithinQuantum
@@ -59,6 +60,7 @@ pub mod FirstDifference
 pub mod YardsAreSafe
 -- searches and first fit
 pub mod WalkFinds
+pub mod TemplateIsLongest
 pub mod NearestFound
 pub mod FirstFit
 -- the genebank

@@ -92,7 +92,7 @@ length-with : (c : Creature) (xs : List Creature) → length (with_record c xs) 
 length-with c [] = refl
 length-with c (x ∷ xs) = ap (λ (n : ℕ). suc n) (length-with c xs)
 
--- also with another reaper list
+-- also with another reaper queue
 population-with : (d : Creature) (reaper : List ℕ) (n e m b e' m' b' : ℕ) (w : World) → Population n e m b w
     → HasFront (record (put d w) { reaper = reaper }) → EachOnce (record (put d w) { reaper = reaper }) → e ≤ e' → m ≤ m' → b ≤ b' → InBounds n e' m' d
     → Population n e' m' b' (record (put d w) { reaper = reaper })

@@ -1,4 +1,4 @@
--- The yard of a scene shows the reaper list of the world, after each event.
+-- The yard of a scene shows the reaper queue of the world, after each event.
 use Rattle.std.proofs.Common.{◌≡◌, ℕ, ◌+◌, ◌^◌, ◌<◌, ◌≤◌, true, List, [], ◌∷◌, ◌++◌, refl, sym, ◌∙◌, ap, subst, arith}
 use Rattle.std.specs.Prelude.{Some, None, Option, map, unwrap_or, slice_index, slice_range}
 use Rattle.std.proofs.lemmas.List.{map-append}
@@ -23,7 +23,7 @@ use Rattle.tierra_model.proofs.Yards.{renamed, renamed-new, stands_as, map-cong,
 use Rattle.tierra_model.proofs.EachOnce.{EachOnce, front-with_birth}
 use Rattle.tierra_model.proofs.EventEffects.{shares-event}
 
--- the yard has the standing of each creature of the reaper list, newborns under their stand-ins from n on
+-- the yard has the standing of each creature of the reaper queue, newborns under their stand-ins from n on
 abbrev pub YardAlike : ℕ → List Standing → World → Type 0
 YardAlike n standings v = standings ≡ map (stands_as n v.living) v.reaper
 

@@ -155,7 +155,7 @@ within-event (event.Divide ran moved) s e m b z q e' b' z' w d c a =
     let v : Event = event.Divide ran moved in
     within-divide s e m b z q e' b' z' ran moved w (front w).daughter d (front-in_bounds s.soup_size e m b w d.population).daughter c.0 c.1
     (omega (arith, a.next_birth)) (omega (arith, a.size)) (population-event v s.soup_size e m b e' b' w d.population c a.errors a.next_birth)
--- the others change the running record alone, and the reaper list
+-- the others change the running record alone, and the reaper queue
 within-event v s e m b z q e' b' z' w d c a =
     let u : World = apply_event w v in
     within-kept w.soup u.living w.slicer u.reaper w.deaths v s e m b z q e' b' z' w d a

@@ -1,12 +1,14 @@
--- The laws on soundness, and on the genebank.
-use Rattle.std.specs.Prelude.{All, List, Option, false, length, true, ℕ, ◌*◌, ◌+◌, ◌/◌, ◌<◌, ◌≡◌, ◌≢◌, ◌≤◌}
+-- The laws on instructions, on soundness and on the genebank.
+use Rattle.std.specs.Prelude.{All, List, Option, false, length, slice_index, true, ℕ, ◌*◌, ◌+◌, ◌/◌, ◌<◌, ◌≡◌, ◌≢◌, ◌≤◌}
 use Rattle.tierra_model.specs.declared.limits.TheConstants.{MOST_QUANTA}
 use Rattle.tierra_model.specs.declared.creatures.Creature.{Creature}
 use Rattle.tierra_model.specs.declared.creatures.Standing.{Standing}
 use Rattle.tierra_model.specs.Queue.{error_move, good_move}
 use Rattle.tierra_model.specs.Counting.{times_in}
-use Rattle.tierra_model.specs.Quantum.{disturb, flip, quantum, reap_times, world_machine}
-use Rattle.tierra_model.specs.World.{World, first_of}
+use Rattle.tierra_model.specs.Look.{answer}
+use Rattle.tierra_model.specs.Step.{step}
+use Rattle.tierra_model.specs.Quantum.{disturb, flip, instruction, perform, quantum, reap_times, world_machine}
+use Rattle.tierra_model.specs.World.{World, first_of, front, put}
 use Rattle.tierra_model.specs.Sound.{IsSound}
 use Rattle.tierra_model.specs.Setups.{IsSetup, SetupFields}
 use Rattle.tierra_model.specs.Serial.{serial}
@@ -14,6 +16,16 @@ use Rattle.tierra_model.specs.Yard.{is_standing_of, stand_in}
 use Rattle.tierra_model.specs.Reads.{ahead}
 use Rattle.tierra_model.specs.Groups.{IsGroup}
 use Rattle.tierra_model.specs.Genebank.{bank, groups_of}
+
+-- Instruction i of the creature at the front: the record and the act that follow from the soup as it is, put in and done.
+abbrev pub plain_instruction : (ℕ → ℕ) → ℕ → World → World
+plain_instruction draw i w =
+    let (c, act) = answer (step w.settings draw i (front w)) (slice_index w.soup) in
+    perform world_machine w.settings act (put c w)
+
+-- That is what an instruction of a machine does in a world.
+abbrev pub InstructionIsPlain : Type 0
+InstructionIsPlain = (w : World) (draw : ℕ → ℕ) (i : ℕ) → instruction world_machine w.settings draw i w ≡ plain_instruction draw i w
 
 -- A quantum of a sound world leaves a sound world, with the same settings and one quantum more.
 pub record StaysSound (w : World) : Type 0 where

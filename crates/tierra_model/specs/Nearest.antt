@@ -1,5 +1,5 @@
--- What a search finds, as the candidate of the least distance.
-use Rattle.std.specs.Prelude.{Bool, List, false, length, true, ℕ, ◌%◌, ◌+◌, ◌<◌, ◌≡◌, ◌≤◌}
+-- What a search finds: its template is the longest run of nops, and it finds the candidate of the least distance.
+use Rattle.std.specs.Prelude.{Bool, List, false, get_or, length, true, ℕ, ◌%◌, ◌+◌, ◌<◌, ◌≡◌, ◌≤◌}
 use Rattle.tierra_model.specs.declared.searching.Found.{Found}
 use Rattle.tierra_model.specs.declared.searching.Way.{Way}
 use Rattle.tierra_model.specs.declared.searching.Way.TheVariants.{Backward, Forward, Outward}
@@ -7,6 +7,24 @@ use Rattle.tierra_model.specs.declared.searching.Found.TheVariants as found
 use Rattle.tierra_model.specs.Ring.{forward, backward}
 use Rattle.tierra_model.specs.Look.{answer}
 use Rattle.tierra_model.specs.Search.{is_complement, search_for, template}
+
+-- ---- the template
+
+-- the m cells from place p on hold nops
+abbrev pub AreNops : ℕ → (ℕ → ℕ) → ℕ → ℕ → Type 0
+AreNops n cells p m = (j : ℕ) → j < m → cells ((p + j) % n) < 2
+
+-- The list has what is held by the most cells from place p on that all hold nops, of at most k cells.
+pub record IsLongest (n : ℕ) (cells : ℕ → ℕ) (k p : ℕ) (vs : List ℕ) : Type 0 where
+  pub few : length vs ≤ k
+  pub nops : AreNops n cells p (length vs)
+  pub held : (j : ℕ) → j < length vs → get_or vs j 0 ≡ cells ((p + j) % n)
+  pub most : (m : ℕ) → m ≤ k → AreNops n cells p m → m ≤ length vs
+
+abbrev pub TemplateIsLongest : Type 0
+TemplateIsLongest = (n : ℕ) (cells : ℕ → ℕ) (k p : ℕ) → IsLongest n cells k p (template n cells k p)
+
+-- ---- the candidates
 
 pub data Side : Type 0 where
   OnForward : Side

@@ -26,7 +26,7 @@ pub record Machine (S : Type 0) : Type 0 where
   -- whether a cell is owned, and what asking for free cells leaves
   pub owned : S → ℕ → Bool
   pub ask_free : S → S
-  -- the reaper list, and what asking for it leaves
+  -- the reaper queue, and what asking for it leaves
   pub reaper : S → List ℕ
   pub ask_reaper : S → S
   -- what an event leaves
@@ -52,7 +52,7 @@ module _ {S : Type 0} (P : Machine S) (s : Settings) where
   abbrev pub take_block : ℕ → ℕ → S → S
   take_block size at x = P.apply (P.apply x (event.Mal at size)) event.Good
 
-  -- the place of the first creature of the reaper list other than the caller
+  -- the place of the first creature of the reaper queue other than the caller
   abbrev pub victim : S → Option ℕ
   victim x = place_of_first_other (P.front x).id (P.reaper x)
 
@@ -64,7 +64,7 @@ module _ {S : Type 0} (P : Machine S) (s : Settings) where
   abbrev pub reap : S → S
   reap x = let y = P.ask_reaper x in reap_at (victim y) y
 
-  -- While there is no room, the first other creature of the reaper list dies; where there is none, mal errs. left is
+  -- While there is no room, the first other creature of the reaper queue dies; where there is none, mal errs. left is
   -- how many others the list has: each death takes one away, so at 0 nobody is left.
   abbrev pub make_room : ℕ → ℕ → S → S
   make_room size zero x =
@@ -106,12 +106,12 @@ module _ {S : Type 0} (P : Machine S) (s : Settings) where
   flip None x = x
   flip (Some c) x = P.apply (P.look x c.0) (event.Write c.0 (flip_bit (P.cell x c.0) (Some c.1)))
 
-  -- k times the first creature of the reaper list other than the one that runs dies, while there is one
+  -- k times the first creature of the reaper queue other than the one that runs dies, while there is one
   abbrev pub reap_times : ℕ → S → S
   reap_times zero x = x
   reap_times (suc k) x = elim (victim x) [ None ↦ x | Some place ↦ reap_times k (P.apply x (event.Reap place)) ]
 
-  -- the disturbance, where it is due: of the living, who are all in the reaper list, so many in a hundred die
+  -- the disturbance, where it is due: of the living, who are all in the reaper queue, so many in a hundred die
   abbrev pub disturb : Bool → S → S
   disturb false x = x
   disturb true x = let y = P.ask_reaper x in reap_times (length (P.reaper y) * s.dist_percent / 100) y

@@ -1,4 +1,4 @@
--- Moves in the reaper list.
+-- Moves in the reaper queue.
 use Rattle.std.specs.Prelude.{Bool, List, None, Option, Some, [], if◌then◌else◌, nat_lt, option_map, suc, zero, ℕ, ◌++◌, ◌==◌, ◌∷◌}
 
 -- The mover changes places with the one before it, unless there is none or that one has more errors.

@@ -46,7 +46,7 @@ pub record World : Type 0 where
   pub next_birth : ℕ
   pub quanta : ℕ
 
--- the birth number at the front of the slicer list, which is not empty in a sound world, and its creature
+-- the birth number at the front of the slicer queue, which is not empty in a sound world, and its creature
 abbrev pub first_of : List ℕ → ℕ
 first_of ids = slice_index ids 0
 

@@ -1,10 +1,23 @@
 //! Creatures and their blocks.
 
+ghost use Rattle.std.specs.Prelude.{◌≡◌};
+ghost use Rattle.tierra_model.specs.Blocks.{is_in};
+
 /// A row of cells, from the cell `at` on.
 #[derive(Clone, Copy, Drop, PartialEq, Eq, Debug)]
 pub struct Block {
     pub at: u32,
     pub size: u32,
+}
+
+impl Block {
+    /// Whether the cell is one of the block's.
+    #[inline]
+    pub fn contains(self, at: u32) -> bool
+        ensures { result ≡ is_in self at }
+    {
+        self.at <= at && at - self.at < self.size
+    }
 }
 
 /// A living creature: its blocks, its processor and its counts.

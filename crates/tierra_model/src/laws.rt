@@ -2,8 +2,8 @@
 
 ghost use Rattle.tierra_model.specs.Findings.{FindingStands, LawOfFindings};
 ghost use Rattle.tierra_model.specs.Difference.{DifferenceTells, LeastPlace};
-ghost use Rattle.tierra_model.specs.Laws.{QuantumIsSound, SerialIsSound, BankIsGroups, BankInRange, YardsAreSafe, AheadIsSound, DisturbanceCountsLiving};
-ghost use Rattle.tierra_model.specs.Nearest.{NearestIsFound};
+ghost use Rattle.tierra_model.specs.Laws.{InstructionIsPlain, QuantumIsSound, SerialIsSound, BankIsGroups, BankInRange, YardsAreSafe, AheadIsSound, DisturbanceCountsLiving};
+ghost use Rattle.tierra_model.specs.Nearest.{NearestIsFound, TemplateIsLongest};
 ghost use Rattle.tierra_model.specs.Room.{FirstFitIsLeast};
 ghost use Rattle.tierra_model.specs.Log.{SceneAlone};
 
@@ -50,6 +50,16 @@ pub fn least_place()
 /// Does nothing: its contract is the law that the groups of a run's world are its setup's genebank.
 pub fn bank_is_groups()
     ensures { BankIsGroups }
+{}
+
+/// Does nothing: its contract is the law that an instruction in a world is what follows from the soup as it is.
+pub fn instruction_is_plain()
+    ensures { InstructionIsPlain }
+{}
+
+/// Does nothing: its contract is the law that a template is the longest run of nops.
+pub fn template_is_longest()
+    ensures { TemplateIsLongest }
 {}
 
 /// Does nothing: its contract is the law that a search finds the matching candidate of the least distance.

@@ -39,11 +39,14 @@ pub trait View {
         requires a_code { value < 32 }
         ensures { self.new ≡ written self.old at value };
 
-    /// All cells in a row, if they lie in one and a look at a cell leaves no trace.
+    /// What is known of all cells, in a row, if it lies in one: a byte below 32 is what the cell holds, and a look at
+    /// that cell leaves no trace. Any other byte tells nothing.
     fn row(&self) -> Option<&[u8]>
         ensures len { IfSome result (λ row. length row.now ≡ size self.now) }
-        ensures held { IfSome result (λ row. (p : ℕ) → slice_index row.now p ≡ cells self.now p) }
-        ensures traceless { IfSome result (λ row. (p : ℕ) → looked self.now p ≡ self.now) }
+        ensures held { IfSome result (λ row. (p : ℕ) → p < size self.now → slice_index row.now p < 32
+            → slice_index row.now p ≡ cells self.now p) }
+        ensures traceless { IfSome result (λ row. (p : ℕ) → p < size self.now → slice_index row.now p < 32
+            → looked self.now p ≡ self.now) }
     {
         None
     }

@@ -1,4 +1,4 @@
--- The first creature of a reaper list other than one who stands in it once, and where a block finds room.
+-- The first creature of a reaper queue other than one who stands in it once, and where a block finds room.
 use Rattle.std.proofs.Common.{◌≡◌, ℕ, ◌+◌, ◌*◌, ◌<◌, ◌≤◌, ◌≢◌, Bool, true, false, List, [], ◌∷◌, ap, arith, length, refl}
 use Rattle.std.proofs.lemmas.Bool.Decides.{nat_tests}
 use Rattle.std.specs.Prelude.{None, Option, Some, nat_le, slice_get, slice_index}

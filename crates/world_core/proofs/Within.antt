@@ -108,7 +108,7 @@ placed_front w x r e = subst (IsPlaced w.settings.soup_size) (sym e) (front_plac
 pub daughter_block : (n : ℕ) (x : Creature) (b : Block) → IsPlaced n x → x.daughter ≡ Some b → IsBlock n b
 daughter_block n x b p e = subst (λ (o : Option Block). IfSome o (IsBlock n)) e p.daughter
 
--- ---- those in the reaper list live
+-- ---- those in the reaper queue live
 
 pub reaped_here : (w : World) (place : ℕ) → ((id : ℕ) → times_in w.reaper id ≡ times_in (ids_of w.living) id) → place < length w.reaper
     → 0 < times_in (ids_of w.living) (slice_index w.reaper place)

@@ -240,7 +240,7 @@ fn write_into(code: &mut Code, block: Block, event: Event)
     ensures { code.new ≡ written_into block event code.old }
 {
     if let Event::Write { at, value } = event {
-        if block.at <= at && at - block.at < block.size {
+        if block.contains(at) {
             code.items[(at - block.at) as usize] = value;
         }
     }

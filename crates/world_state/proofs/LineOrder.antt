@@ -1,4 +1,4 @@
--- The living, found again by sorting those in the slicer list.
+-- The living, found again by sorting those in the slicer queue.
 use Rattle.std.proofs.Common.{◌≡◌, ◌∙◌, ℕ, suc, ◌+◌, ◌<◌, ◌≤◌, List, [], ◌∷◌, refl, sym, ap, ap₂, subst, arith, get_or, length, map, true, inl, inr}
 use Rattle.std.specs.Prelude.{◌↔◌, fold, unwrap_or, ◌==◌}
 use Rattle.std.specs.List.{sum_by}
@@ -131,7 +131,7 @@ pub are-here : (living : List Creature) (ids : List ℕ) → ((id : ℕ) → tim
 are-here living ids same =
     each-times (λ id. is_here living id ≡ true) ids (λ id lt. is_here-times living id (let s = same id in omega (arith, lt)))
 
--- the living of a sound world in the order of the slicer list
+-- the living of a sound world in the order of the slicer queue
 abbrev pub line_of : World → List Creature
 line_of w = map (one_of w.living) w.slicer
 

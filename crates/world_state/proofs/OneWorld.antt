@@ -40,7 +40,7 @@ one-of-each P (x ∷ xs) each id some = elim (eqb_tells x id) [
   | inr other ↦ one-of-each P xs each.1 id (omega (arith, some, ap one_if other.0))
 ]
 
--- those who stand the same in the slicer list live the same
+-- those who stand the same in the slicer queue live the same
 same_living : (v w : World) → IsSound v → IsSound w → v.slicer ≡ w.slicer → line_of v ≡ line_of w → v.living ≡ w.living
 same_living v w s t queue line =
     let ids : ids_of v.living ≡ ids_of w.living = ordered-same 1 (ids_of v.living) (ids_of w.living) s.ordered t.ordered

@@ -1,10 +1,10 @@
--- As many are in the slicer list of a sound world as live.
+-- As many are in the slicer queue of a sound world as live.
 use Rattle.std.proofs.Common.{◌≡◌, length}
 use Rattle.tierra_model.specs.World.{World}
 use Rattle.tierra_model.specs.Sound.{IsSound}
 use Rattle.tierra_model.proofs.DisturbanceCounts.{length-reaper}
 
--- the law of the reaper list, in the world whose reaper list is the slicer list
+-- the law of the reaper queue, in the world whose reaper queue is the slicer queue
 pub length-slicer : (w : World) → IsSound w → length w.slicer ≡ length w.living
 length-slicer w s =
     length-reaper (record w { reaper = w.slicer }) (record {

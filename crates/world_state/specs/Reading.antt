@@ -244,7 +244,7 @@ founds_at bytes = made second (both eight_at (list_at found_at)) bytes
 unfoldable pub savings_at : List ℕ → Option (List Saving × List ℕ)
 savings_at bytes = made second (both eight_at (list_at saving_at)) bytes
 
--- the cells, four counts, the living in the order of the slicer list, the reaper list, the genotypes and the savings
+-- the cells, four counts, the living in the order of the slicer queue, the reaper queue, the genotypes and the savings
 abbrev pub StateParts : Type 0
 StateParts = List ℕ × (((ℕ × ℕ) × (ℕ × ℕ)) × (List Creature × (List ℕ × (List Found × List Saving))))
 

@@ -69,7 +69,7 @@ soup_bytes w = four w.settings.soup_size ++ w.soup
 unfoldable pub counts_bytes : World → List ℕ
 counts_bytes w = (eight w.quanta ++ eight w.births) ++ (eight w.deaths ++ eight w.next_birth)
 
--- the living, in the order of the slicer list
+-- the living, in the order of the slicer queue
 unfoldable pub living_bytes : World → List ℕ
 living_bytes w = four (length w.living) ++ flat_map creature_bytes (map (one_of w.living) w.slicer)
 

@@ -33,7 +33,7 @@ fn put(bytes: &mut Vec<u8>, place: usize, value: u8) {
     }
 }
 
-// 104 bytes of soup, 32 of counts, 4 and twice 129 of the living, 16 of the reaper list, 8 and twice 62 of the
+// 104 bytes of soup, 32 of counts, 4 and twice 129 of the living, 16 of the reaper queue, 8 and twice 62 of the
 // genotypes, 8 and twice 48 of the savings.
 fn small_world(alloc: Global) -> Result<Vec<u8>, OutOfMemory> {
     let mut bytes = Vec::with_capacity(alloc, SIZE)?;
@@ -48,14 +48,14 @@ fn small_world(alloc: Global) -> Result<Vec<u8>, OutOfMemory> {
         (119, 1), // births
         (135, 3), // the next birth number
         (139, 2), // how many live
-        (147, 2), // the newborn, who is at the front of the slicer list
+        (147, 2), // the newborn, who is at the front of the slicer queue
         (151, 7), // its block begins at 7
         (155, 2), // and has two cells
         (252, 1), // the number of its genotype
         (276, 1), // the first creature
         (280, 5),
         (284, 2),
-        (405, 1), // the reaper list
+        (405, 1), // the reaper queue
         (413, 2),
         (421, 2), // how many genotypes
         (425, 2), // the length of the first code
@@ -153,7 +153,7 @@ fn a_change_is_judged(rt: HostRuntime) -> Result<(), Fail> {
         ((237, 1), none, false), // too many errors
         ((252, 2), none, false), // a genotype that there is not
         ((405, 2), (413, 1), true), // the other at the top
-        ((405, 2), none, false), // and twice in the reaper list
+        ((405, 2), none, false), // and twice in the reaper queue
         ((426, 32), none, false), // no code of a genotype
         ((489, 26), none, false), // the same code twice
         ((435, 1), none, false), // a genotype is its own parent

@@ -21,7 +21,7 @@ fn placed(alloc: Global, bytes: &[u8]) -> Result<Vec<(usize, u8)>, OutOfMemory> 
     Ok(placed)
 }
 
-// 104 bytes of soup, 32 of counts, 4 and 129 of the creature, 8 of the reaper list, 70 of the genotype, 56 of the saving.
+// 104 bytes of soup, 32 of counts, 4 and 129 of the creature, 8 of the reaper queue, 70 of the genotype, 56 of the saving.
 #[test]
 fn a_small_world_is_told_as_bytes(rt: HostRuntime) -> Result<(), Fail> {
     let alloc = rt.alloc();
@@ -37,7 +37,7 @@ fn a_small_world_is_told_as_bytes(rt: HostRuntime) -> Result<(), Fail> {
         (151, 5), // its block begins at 5
         (155, 2), // and has two cells
         (191, 5), // its ip
-        (276, 1), // the reaper list
+        (276, 1), // the reaper queue
         (284, 1), // how many genotypes
         (288, 2), // the length of the code
         (289, 9), // the code
@@ -205,7 +205,7 @@ fn a_changed_byte_is_refused_or_told_again(rt: HostRuntime) -> Result<(), Fail> 
         (127, 1, false), // the deaths, which the next birth number tells
         (135, 3, false), // the next birth number
         (139, 2, false), // more live than are told
-        (147, 2, false), // a birth number that the reaper list has not
+        (147, 2, false), // a birth number that the reaper queue has not
         (151, 99, false), // a block past the end
         (155, 0, false), // and one of no cell
         (163, 5, true), // a daughter block before the creature's own
@@ -215,7 +215,7 @@ fn a_changed_byte_is_refused_or_told_again(rt: HostRuntime) -> Result<(), Fail> 
         (235, 10, false), // its place on the stack
         (244, 3, true), // the errors
         (252, 1, false), // a genotype that there is not
-        (276, 2, false), // somebody else in the reaper list
+        (276, 2, false), // somebody else in the reaper queue
         (290, 32, false), // no code of a genotype
         (298, 1, false), // a genotype that is its own parent
         (314, 0, false), // too few ever had what is saved

@@ -109,18 +109,10 @@ impl View for Flat {
     }
 
     fn may_write(&self, at: u32) -> bool {
-        has(self.own, at) || self.daughter.is_some_and(|block| has(block, at))
+        self.own.contains(at) || self.daughter.is_some_and(|block| block.contains(at))
     }
 
     fn set(&mut self, at: u32, value: u8) {
         self.cells[at as usize] = value;
     }
-}
-
-ghost use Rattle.tierra_model.specs.Blocks.{is_in};
-
-fn has(block: Block, at: u32) -> bool
-    ensures { result ≡ is_in block at }
-{
-    block.at <= at && at - block.at < block.size
 }

@@ -6,16 +6,16 @@ use Rattle.soup_cells.specs.Cells.{is_ready}
 use Rattle.serial_slicer.proofs.sole.Sole.new.Goals as goal
 
 -- the cells of a page are ready together
-ready_together : (h : WorldFields) (page p : ℕ) → page * 4096 ≤ p → p < (page + 1) * 4096 → can_be_set h (page * 4096) ≡ true → can_be_set h p ≡ true
+ready_together : (h : WorldFields) (page p : ℕ) → page * 16384 ≤ p → p < (page + 1) * 16384 → can_be_set h (page * 16384) ≡ true → can_be_set h p ≡ true
 unfolding is_ready
 ready_together h page p from below here =
-    let same : p / 4096 ≡ page * 4096 / 4096 = omega arith in
+    let same : p / 16384 ≡ page * 16384 / 16384 = omega arith in
     ap (λ (k : ℕ). slice_index_or h.own k false) same ∙ here
 
 pub loop-page-preserved : goal.loop-page-preserved
 loop-page-preserved c = record {
   world = c.in_ok-ready.ensures.world ∙ c.loop-page.invariant.world;
-  ready = λ p below. elim (leb_tells (c.loop-page.page * 4096) p) [
+  ready = λ p below. elim (leb_tells (c.loop-page.page * 16384) p) [
     | inl from ↦ ready_together c.ready.new.self c.loop-page.page p from.1 below c.in_ok-ready.ensures.ok
     | inr before ↦ c.in_ok-ready.ensures.kept p (c.loop-page.invariant.ready p before.1)
   ];

@@ -5,5 +5,5 @@ use Rattle.serial_slicer.proofs.sole.Sole.new.Given as goal
 abbrev pub invariant-loop-page : goal.invariant-loop-page
 invariant-loop-page l = record {
   world : l.running.world ≡ l.fn.running.world;
-  ready : (p : ℕ) → p < l.page * 4096 → can_be_set l.running p ≡ true;
+  ready : (p : ℕ) → p < l.page * 16384 → can_be_set l.running p ≡ true;
 }

@@ -12,7 +12,7 @@ there c =
 
 pub index-requires : goal.index-requires
 index-requires c =
-    let h : c.args.at / 4096 < length c.self.inside.pages.items = (there c).page in
+    let h : c.args.at / 16384 < length c.self.inside.pages.items = (there c).page in
     search rules
 
 pub get-requires : goal.get-requires
