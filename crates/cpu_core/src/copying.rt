@@ -40,16 +40,17 @@ fn flip_bit(value: u8, bit: Option<u8>) -> u8
 pub fn mov_iab<V: View>(
     creature: &mut Creature,
     view: &mut V,
-    draws: &Draws,
+    draws: &mut Draws,
     i: u32,
     settings: &Settings,
 ) -> Act
     requires ready { CanExecute V.size V.cells V.writable settings.now creature.old view.old }
     requires moved { creature.old.moved < COUNT_END }
     requires errors { creature.old.errors < COUNT_END }
-    ensures { Executes V.cells V.looked V.written (copy creature.old
+    ensures executes { Executes V.cells V.looked V.written (copy creature.old
         (address creature.old.bx settings.now.soup_size) (address creature.old.ax settings.now.soup_size)
-        (copy_bit_of draws.now i)) view.old view.new creature.new result }
+        (copy_bit_of draws.old i)) view.old view.new creature.new result }
+    ensures draws { draws.new ≡ draws.old }
 {
     let to = addr(creature.ax, settings.soup_size);
     let to_daughter = is_in_daughter(creature, to);

@@ -118,15 +118,16 @@ pub fn find_address<V: View>(
     view: &mut V,
     ip: u32,
     way: Way,
-    draws: &Draws,
+    draws: &mut Draws,
     i: u32,
     settings: &Settings,
 ) -> Act
     requires size { V.size view.old ≡ settings.now.soup_size }
     requires ip { ip < settings.now.soup_size }
     requires errors { creature.old.errors < COUNT_END }
-    ensures { Executes V.cells V.looked V.written (search_outcome settings.now ip way creature.old
-        (λ p. record creature.old { ax = plus (pos p) (flaw_of draws.now i) })) view.old view.new creature.new result }
+    ensures executes { Executes V.cells V.looked V.written (search_outcome settings.now ip way creature.old
+        (λ p. record creature.old { ax = plus (pos p) (flaw_of draws.old i) })) view.old view.new creature.new result }
+    ensures draws { draws.new ≡ draws.old }
 {
     match find(view, ip, way, settings) {
         Found::At(place) => {
@@ -150,9 +151,10 @@ fn enter(creature: &mut Creature, place: u32)
 }
 
 // Takes the place into ax, with the flaw.
-fn take_address(creature: &mut Creature, place: u32, draws: &Draws, i: u32)
+fn take_address(creature: &mut Creature, place: u32, draws: &mut Draws, i: u32)
     requires { place < 2 ^ 31 }
-    ensures { creature.new ≡ record creature.old { ax = plus (pos place) (flaw_of draws.now i) } }
+    ensures creature { creature.new ≡ record creature.old { ax = plus (pos place) (flaw_of draws.old i) } }
+    ensures draws { draws.new ≡ draws.old }
 {
     creature.ax = add_wrap(place as i32, flaw(draws, i));
 }

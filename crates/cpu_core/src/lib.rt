@@ -42,7 +42,7 @@ use tierra_model::{Creature, Op, Settings, View};
 pub fn step<V: View, L: Ledger>(
     creature: &mut Creature,
     view: &mut V,
-    draws: &Draws,
+    draws: &mut Draws,
     i: u32,
     settings: &Settings,
     steps: &mut Steps<L>,
@@ -51,8 +51,9 @@ pub fn step<V: View, L: Ledger>(
     requires moved { creature.old.moved < COUNT_END }
     requires errors { creature.old.errors < COUNT_END }
     requires ran { creature.old.ran < COUNT_END }
-    ensures executes { Executes V.cells V.looked V.written (step (with_rates_of draws.now settings.now)
-        (word draws.now.seed draws.now.quantum) i creature.old) view.old view.new creature.new result }
+    ensures executes { Executes V.cells V.looked V.written (step (with_rates_of draws.old settings.now)
+        (word draws.old.seed draws.old.quantum) i creature.old) view.old view.new creature.new result }
+    ensures draws { draws.new ≡ draws.old }
     ensures ready { CanExecute V.size V.cells V.writable settings.now creature.new view.new }
     ensures after { IsAfterStep creature.old creature.new }
     ensures ticks { steps.new ≡ steps.old + 1 }
@@ -89,7 +90,7 @@ fn execute<V: View>(
     view: &mut V,
     op: Op,
     ip: u32,
-    draws: &Draws,
+    draws: &mut Draws,
     i: u32,
     settings: &Settings,
 ) -> Act
@@ -97,8 +98,9 @@ fn execute<V: View>(
     requires ip { ip < settings.now.soup_size }
     requires errors { creature.old.errors < COUNT_END }
     requires moved { creature.old.moved < COUNT_END }
-    ensures { Executes V.cells V.looked V.written (execute settings.now (flaw_of draws.now i)
-        (copy_bit_of draws.now i) ip creature.old op) view.old view.new creature.new result }
+    ensures executes { Executes V.cells V.looked V.written (execute settings.now (flaw_of draws.old i)
+        (copy_bit_of draws.old i) ip creature.old op) view.old view.new creature.new result }
+    ensures draws { draws.new ≡ draws.old }
 {
     match op {
         Op::Nop0 | Op::Nop1 => Act::Plain,

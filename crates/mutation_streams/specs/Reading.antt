@@ -13,9 +13,11 @@ abbrev pub first_words : List ℕ → ℕ → List ℕ
 first_words key stream =
     word_at 4 key stream 0 ∷ word_at 4 key stream 1 ∷ word_at 4 key stream 2 ∷ []
 
--- the words of instruction i that decide on its flaw, and those that decide on a flip in its copy
-abbrev pub flaw_words : List ℕ → ℕ → ℕ → ℕ × ℕ
-flaw_words key stream i = (word_at 4 key stream (3 + 4 * i), word_at 4 key stream (4 + 4 * i))
+-- four words from this one on
+abbrev pub words_at : List ℕ → ℕ → ℕ → List ℕ
+words_at key stream n =
+    word_at 4 key stream n ∷ word_at 4 key stream (n + 1) ∷ word_at 4 key stream (n + 2) ∷ word_at 4 key stream (n + 3) ∷ []
 
-abbrev pub copy_words : List ℕ → ℕ → ℕ → ℕ × ℕ
-copy_words key stream i = (word_at 4 key stream (5 + 4 * i), word_at 4 key stream (6 + 4 * i))
+-- the words of instruction i: two that decide on its flaw, and two on a flip in its copy
+abbrev pub instruction_words : List ℕ → ℕ → ℕ → List ℕ
+instruction_words key stream i = words_at key stream (3 + 4 * i)

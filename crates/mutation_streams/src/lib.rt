@@ -17,8 +17,8 @@ use tierra_model::Settings;
 
 /// The draws of one quantum. A rate R is due at a word that R divides, and at none where R is 0.
 ///
-/// The words are found by number. Where the instructions come in order and each is turned to, the stream is read on,
-/// and its blocks are made once.
+/// The words are found by number. Where they are asked for in order the stream is read on, and each block of it that is
+/// needed is made once.
 #[derive(Debug, Drop)]
 pub struct Draws {
     seed: [u8; 32],
@@ -51,12 +51,12 @@ impl Model for Draws {
 }
 
 impl Draws {
-    /// Computes no word where all rates are 0.
+    /// Computes no word yet.
     #[inline]
     pub fn new(settings: &Settings, q: u64) -> Draws
         ensures { result ≡ draws_of settings.now q }
     {
-        let mut draws = Draws {
+        Draws {
             seed: settings.seed,
             quantum: q,
             soup_size: settings.soup_size,
@@ -64,27 +64,14 @@ impl Draws {
             copy_rate: settings.copy_rate,
             flaw_rate: settings.flaw_rate,
             reading: None,
-        };
-        if settings.back_rate != 0 || settings.copy_rate != 0 || settings.flaw_rate != 0 {
-            draws.reading = Some(Reading::start(&settings.seed, q));
-        }
-        draws
-    }
-
-    /// Has the words of instruction `i` at hand, which is cheap where it is the next one.
-    #[inline]
-    pub fn turn_to(&mut self, i: u32)
-        ensures { self.new ≡ self.old }
-    {
-        if let Some(reading) = &mut self.reading {
-            reading.turn_to(i);
         }
     }
 
     /// The cell and the bit that are flipped in the soup before the slice, if any.
     #[inline]
-    pub fn back(&self) -> Option<(u32, u8)>
-        ensures { result ≡ back_flip self.now.back_rate (word self.now.seed self.now.quantum) self.now.soup_size }
+    pub fn back(&mut self) -> Option<(u32, u8)>
+        ensures flip { result ≡ back_flip self.old.back_rate (word self.old.seed self.old.quantum) self.old.soup_size }
+        ensures same { self.new ≡ self.old }
     {
         if self.back_rate == 0 {
             return None;
@@ -98,13 +85,14 @@ impl Draws {
 
     /// The flaw of instruction `i` of the quantum: 1, -1 or none, which is 0.
     #[inline]
-    pub fn flaw(&self, i: u32) -> i32
-        ensures { result ≡ flaw self.now.flaw_rate (word self.now.seed self.now.quantum) i }
+    pub fn flaw(&mut self, i: u32) -> i32
+        ensures flaw { result ≡ flaw self.old.flaw_rate (word self.old.seed self.old.quantum) i }
+        ensures same { self.new ≡ self.old }
     {
         if self.flaw_rate == 0 {
             return 0;
         }
-        let (due, sign) = self.flaw_words(i);
+        let [due, sign, _, _] = self.words_of(i);
         if due % self.flaw_rate != 0 {
             return 0;
         }
@@ -113,13 +101,14 @@ impl Draws {
 
     /// The bit that a copy by instruction `i` of the quantum flips, if any.
     #[inline]
-    pub fn copy_bit(&self, i: u32) -> Option<u8>
-        ensures { result ≡ copy_bit self.now.copy_rate (word self.now.seed self.now.quantum) i }
+    pub fn copy_bit(&mut self, i: u32) -> Option<u8>
+        ensures bit { result ≡ copy_bit self.old.copy_rate (word self.old.seed self.old.quantum) i }
+        ensures same { self.new ≡ self.old }
     {
         if self.copy_rate == 0 {
             return None;
         }
-        let (due, bit) = self.copy_words(i);
+        let [_, _, due, bit] = self.words_of(i);
         if due % self.copy_rate != 0 {
             return None;
         }
@@ -128,47 +117,37 @@ impl Draws {
 
     // Words 0 to 2.
     #[tactic(auto, unfolding(tierra_model::specs::Draw::word))]
-    fn first_words(&self) -> [u32; 3]
-        ensures { let w = word self.now.seed self.now.quantum in result ≡ w 0 ∷ w 1 ∷ w 2 ∷ [] }
+    fn first_words(&mut self) -> [u32; 3]
+        ensures words { let w = word self.old.seed self.old.quantum in result ≡ w 0 ∷ w 1 ∷ w 2 ∷ [] }
+        ensures same { self.new ≡ self.old }
     {
         match &self.reading {
             Some(reading) => reading.first(),
-            None => Reading::start(&self.seed, self.quantum).first(),
+            None => {
+                let reading = Reading::start(&self.seed, self.quantum);
+                let words = reading.first();
+                self.reading = Some(reading);
+                words
+            }
         }
     }
 
-    // Words 3 + 4 i and 4 + 4 i.
+    // Words 3 + 4 i to 6 + 4 i.
     #[tactic(auto, unfolding(tierra_model::specs::Draw::word))]
     #[inline]
-    fn flaw_words(&self, i: u32) -> (u32, u32)
-        ensures { let w = word self.now.seed self.now.quantum in result ≡ (w (3 + 4 * i), w (4 + 4 * i)) }
+    fn words_of(&mut self, i: u32) -> [u32; 4]
+        ensures words { let w = word self.old.seed self.old.quantum in
+            result ≡ w (3 + 4 * i) ∷ w (4 + 4 * i) ∷ w (5 + 4 * i) ∷ w (6 + 4 * i) ∷ [] }
+        ensures same { self.new ≡ self.old }
     {
-        match &self.reading {
-            Some(reading) if reading.instruction() == i => reading.flaw(),
-            _ => reading_at(&self.seed, self.quantum, i).flaw(),
+        match &mut self.reading {
+            Some(reading) => reading.words_of(i),
+            None => {
+                let mut reading = Reading::start(&self.seed, self.quantum);
+                let words = reading.words_of(i);
+                self.reading = Some(reading);
+                words
+            }
         }
     }
-
-    // Words 5 + 4 i and 6 + 4 i.
-    #[tactic(auto, unfolding(tierra_model::specs::Draw::word))]
-    #[inline]
-    fn copy_words(&self, i: u32) -> (u32, u32)
-        ensures { let w = word self.now.seed self.now.quantum in result ≡ (w (5 + 4 * i), w (6 + 4 * i)) }
-    {
-        match &self.reading {
-            Some(reading) if reading.instruction() == i => reading.copy(),
-            _ => reading_at(&self.seed, self.quantum, i).copy(),
-        }
-    }
-}
-
-// A new reading, at instruction `i`.
-#[cold]
-#[inline(never)]
-fn reading_at(seed: &[u8; 32], stream: u64, i: u32) -> Reading
-    ensures { result ≡ record { key = key_of seed.now; stream = stream; instruction = i } }
-{
-    let mut reading = Reading::start(seed, stream);
-    reading.turn_to(i);
-    reading
 }

@@ -98,16 +98,17 @@ pub trait Ground {
     /// The step of instruction `i`: a write and an error are done, a `mal` and a divide are left. It ticks once.
     fn step<L: Ledger>(
         &mut self,
-        draws: &Draws,
+        draws: &mut Draws,
         i: u32,
         settings: &Settings,
         steps: &mut Steps<L>,
     ) -> Act
         requires ready { Ready self.old 1 }
         requires settings { settings.now ≡ (frame self.old).settings }
-        requires draws { draws.now ≡ draws_of settings.now (frame self.old).quantum }
+        requires draws { draws.old ≡ draws_of settings.now (frame self.old).quantum }
         ensures step { let draw = word settings.now.seed (frame self.old).quantum in
             step_in machine settings.now draw i (state self.old) ≡ (state self.new, result) }
+        ensures draws { draws.new ≡ draws.old }
         ensures left { IsLeft (Machine.front machine (state self.new)) result }
         ensures frame { frame self.new ≡ frame self.old }
         ensures ready { (n : ℕ) → Ready self.old (n + 1) → Ready self.new n }

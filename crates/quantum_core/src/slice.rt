@@ -31,23 +31,23 @@ pub fn run_slice<G: Ground, L: Ledger>(
     ensures err { OnErr result G.Refusal }
 {
     let mut draws = Draws::new(settings, quantum);
-    flip(ground, &draws);
+    flip(ground, &mut draws);
     disturb(ground, settings, quantum)?;
     for i in 0..slice {
-        draws.turn_to(i);
-        instruction(ground, &draws, i, settings, steps)?;
+        instruction(ground, &mut draws, i, settings, steps)?;
     }
     Ok(())
 }
 
 // The background flip, where one is due.
-fn flip<G: Ground>(ground: &mut G, draws: &Draws)
+fn flip<G: Ground>(ground: &mut G, draws: &mut Draws)
     requires ready { G.Ready ground.old 1 }
-    requires draws { draws.now ≡ draws_of (G.frame ground.old).settings (G.frame ground.old).quantum }
+    requires draws { draws.old ≡ draws_of (G.frame ground.old).settings (G.frame ground.old).quantum }
     ensures state { let settings = (G.frame ground.old).settings in
         let draw = word settings.seed (G.frame ground.old).quantum in
         let due = back_flip settings.back_rate draw settings.soup_size in
         G.state ground.new ≡ flip G.machine settings due (G.state ground.old) }
+    ensures draws { draws.new ≡ draws.old }
     ensures frame { G.frame ground.new ≡ G.frame ground.old }
     ensures ready { (n : ℕ) → G.Ready ground.old (n + 1) → G.Ready ground.new n }
 {
@@ -102,16 +102,17 @@ fn reap_times<G: Ground>(ground: &mut G, times: u64) -> Result<(), OutOfMemory>
 // One instruction.
 fn instruction<G: Ground, L: Ledger>(
     ground: &mut G,
-    draws: &Draws,
+    draws: &mut Draws,
     i: u32,
     settings: &Settings,
     steps: &mut Steps<L>,
 ) -> Result<(), OutOfMemory>
     requires ready { G.Ready ground.old 4 }
     requires settings { settings.now ≡ (G.frame ground.old).settings }
-    requires draws { draws.now ≡ draws_of settings.now (G.frame ground.old).quantum }
+    requires draws { draws.old ≡ draws_of settings.now (G.frame ground.old).quantum }
     ensures state { let draw = word settings.now.seed (G.frame ground.old).quantum in
         OnOk result (G.state ground.new ≡ instruction G.machine settings.now draw i (G.state ground.old)) }
+    ensures draws { draws.new ≡ draws.old }
     ensures frame { OnOk result (G.frame ground.new ≡ G.frame ground.old) }
     ensures ready { OnOk result ((n : ℕ) → G.Ready ground.old (n + 4) → G.Ready ground.new n) }
     ensures ticks { OnOk result (steps.new ≡ steps.old + 1) }

@@ -196,7 +196,7 @@ impl<'a> Ground for OnScene<'a> {
 
     fn step<L: Ledger>(
         &mut self,
-        draws: &Draws,
+        draws: &mut Draws,
         i: u32,
         settings: &Settings,
         steps: &mut Steps<L>,

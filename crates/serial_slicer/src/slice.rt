@@ -36,12 +36,11 @@ pub(crate) fn run_quantum<L: Ledger>(
 {
     let mut draws = Draws::new(settings, sole.quanta() + 1);
     let slice = slice_of(sole.front().own.size, settings);
-    sole.flip(&draws);
+    sole.flip(&mut draws);
     disturb(sole, settings)?;
     let mut creature = sole.begin_turn();
     for i in 0..slice {
-        draws.turn_to(i);
-        instruction(alloc, &mut creature, sole, &draws, i, settings, steps)?;
+        instruction(alloc, &mut creature, sole, &mut draws, i, settings, steps)?;
     }
     sole.put(creature);
     sole.end_turn();
@@ -90,7 +89,7 @@ fn instruction<L: Ledger>(
     alloc: Global,
     creature: &mut Creature,
     sole: &mut Sole,
-    draws: &Draws,
+    draws: &mut Draws,
     i: u32,
     settings: &Settings,
     steps: &mut Steps<L>,
@@ -100,13 +99,14 @@ fn instruction<L: Ledger>(
     requires moved { creature.old.moved < COUNT_END }
     requires ran { creature.old.ran < COUNT_END }
     requires settings { settings.now ≡ sole.old.world.settings }
-    requires draws { draws.now ≡ draws_of settings.now (sole.old.world.quanta + 1) }
+    requires draws { draws.old ≡ draws_of settings.now (sole.old.world.quanta + 1) }
     requires next { IsRunning (instruction world_machine settings.now
         (word settings.now.seed (sole.old.world.quanta + 1)) i (put creature.old sole.old.world)) }
     ensures turn { OnOk result (IsTurn creature.new sole.new) }
     ensures world { OnOk result (put creature.new sole.new.world
         ≡ instruction world_machine settings.now (word settings.now.seed (sole.old.world.quanta + 1)) i
         (put creature.old sole.old.world)) }
+    ensures draws { draws.new ≡ draws.old }
 {
     match step(creature, sole, draws, i, settings, steps) {
         Act::Plain | Act::Wrote { .. } => Ok(()),

@@ -254,10 +254,11 @@ impl Sole {
     }
 
     /// The background flip.
-    pub(crate) fn flip(&mut self, draws: &Draws)
+    pub(crate) fn flip(&mut self, draws: &mut Draws)
         requires within { IsRunning self.old.world }
-        requires draws { draws.now ≡ draws_of self.old.world.settings (self.old.world.quanta + 1) }
-        ensures { self.new.world ≡ flip world_machine self.old.world.settings
+        requires draws { draws.old ≡ draws_of self.old.world.settings (self.old.world.quanta + 1) }
+        ensures draws { draws.new ≡ draws.old }
+        ensures world { self.new.world ≡ flip world_machine self.old.world.settings
             (back_flip self.old.world.settings.back_rate
             (word self.old.world.settings.seed (self.old.world.quanta + 1)) self.old.world.settings.soup_size)
             self.old.world }

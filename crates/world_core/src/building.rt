@@ -1,15 +1,16 @@
 //! A world put together from what its bytes tell.
 
-ghost use Rattle.std.specs.Prelude.{◌≡◌, ◌≤◌, ◌<◌, ℕ, All, IfOk, length, nat_lt, not};
+ghost use Rattle.std.specs.Prelude.{◌≡◌, ◌≤◌, ◌<◌, ℕ, All, IfOk, List, length, nat_lt, not};
 ghost use Rattle.tierra_model.specs.declared.limits.TheConstants.{COUNT_END};
 ghost use Rattle.tierra_model.specs.Counting.{times_in};
 ghost use Rattle.tierra_model.specs.FreeList.{runs_of};
 ghost use Rattle.tierra_model.specs.Living.{ids_of, one_of};
-ghost use Rattle.tierra_model.specs.Ranges.{IsBlock};
+ghost use Rattle.tierra_model.specs.Ranges.{IsBlock, IsCode};
 ghost use Rattle.tierra_model.specs.Room.{is_owned};
-ghost use Rattle.tierra_model.specs.Sound.{IsPlaced, IsSound, Ordered, owners};
+ghost use Rattle.tierra_model.specs.Sound.{IsPlaced, IsSound, Ordered, owners, times_coded};
 ghost use Rattle.census.specs.Census.{living_of};
 ghost use Rattle.world_state.specs.Checks.{covers};
+ghost use Rattle.world_state.specs.Reading.{genotypes_of};
 ghost use Rattle.world_core.specs.Population.{entries_of};
 ghost use Rattle.world_core.specs.Running.{number_with};
 
@@ -20,12 +21,13 @@ use crate::running::{Counts, Running};
 use crate::world::World;
 use block_alloc::Blocks;
 use census::Census;
+use genotyper::Genotypes;
 use reaper_queue::Reaper;
 use slicer_queue::Slicer;
 use soup_cells::Soup;
 use std::alloc::Global;
 use tierra_model::{Block, Creature, OutOfMemory};
-use world_state::{Draft, blocks_in, genotypes_from};
+use world_state::{Draft, Found, blocks_in, genotypes_from};
 
 /// The world that was drafted, which is sound.
 pub(crate) fn world_from(alloc: Global, draft: Draft) -> Result<World, OutOfMemory>
@@ -34,14 +36,10 @@ pub(crate) fn world_from(alloc: Global, draft: Draft) -> Result<World, OutOfMemo
 {
     let size = draft.settings.soup_size;
     let soup = soup_from(alloc, size, &draft.cells)?;
-    let living = living_from(alloc, &draft.living)?;
-    let slicer = slicer_from(alloc, &draft.slicer)?;
-    let reaper = reaper_from(alloc, &living, &draft.reaper)?;
+    let population = population_from(alloc, &draft.living, &draft.slicer, &draft.reaper)?;
     let blocks = blocks_from(alloc, size, &draft.living)?;
     let census = census_from(alloc, &draft.living)?;
-    let found = genotypes_from(alloc, &draft.founds)?;
-    let genotypes = found.unwrap();
-    let population = Population::of(living, slicer, reaper);
+    let genotypes = all_genotypes(alloc, &draft.founds)?;
     let genes = Genes::of(genotypes, draft.saved);
     let counts = Counts {
         births: draft.births,
@@ -76,6 +74,27 @@ fn soup_from(alloc: Global, size: u32, cells: &[u8]) -> Result<Soup, OutOfMemory
 }
 
 // ---- the living and their queues
+
+// The living in their queues.
+fn population_from(
+    alloc: Global,
+    creatures: &[Creature],
+    slicer: &[u64],
+    reaper: &[u64],
+) -> Result<Population, OutOfMemory>
+    requires ordered { Ordered 1 (ids_of creatures.now) }
+    requires in_slicer { (id : ℕ) → times_in slicer.now id ≤ 1 }
+    requires in_reaper { (id : ℕ) → times_in reaper.now id ≤ 1 }
+    requires here { (id : ℕ) → times_in reaper.now id ≡ times_in (ids_of creatures.now) id }
+    ensures living { IfOk result (λ p. p.living ≡ creatures.now) }
+    ensures slicer { IfOk result (λ p. p.slicer ≡ slicer.now) }
+    ensures reaper { IfOk result (λ p. p.reaper ≡ reaper.now) }
+{
+    let living = living_from(alloc, creatures)?;
+    let slicer = slicer_from(alloc, slicer)?;
+    let reaper = reaper_from(alloc, &living, reaper)?;
+    Ok(Population::of(living, slicer, reaper))
+}
 
 fn living_from(alloc: Global, creatures: &[Creature]) -> Result<Living, OutOfMemory>
     requires { Ordered 1 (ids_of creatures.now) }
@@ -161,4 +180,16 @@ fn census_from(alloc: Global, living: &[Creature]) -> Result<Census, OutOfMemory
         census.born(creature.genotype);
     }
     Ok(census)
+}
+
+// ---- the genotypes
+
+// The genotypes that were found, each of which has a code of its own.
+fn all_genotypes(alloc: Global, founds: &[Found]) -> Result<Genotypes, OutOfMemory>
+    requires codes { All (λ f. IsCode f.code) founds.now }
+    requires once { (code : List ℕ) → times_coded (genotypes_of founds.now) code ≤ 1 }
+    ensures { IfOk result (λ g. g.genotypes ≡ genotypes_of founds.now) }
+{
+    let found = genotypes_from(alloc, founds)?;
+    Ok(found.unwrap())
 }

@@ -18,7 +18,7 @@ use std::marker::Model;
 use tierra_model::{Creature, OutOfMemory};
 
 // So many places are looked at before a search. Deaths of later-born creatures move a record by less than was counted.
-const NEAR: usize = 4;
+const NEAR: usize = 12;
 
 /// The records of the living. A creature is found by its birth number, where it was seen last, or else in steps that
 /// grow with the logarithm of how many live.

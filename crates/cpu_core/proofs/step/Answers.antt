@@ -5,7 +5,7 @@ use Rattle.cpu_core.proofs.step.Goals as goal
 
 pub returns-clause-executes : goal.returns-clause-executes
 returns-clause-executes g c =
-    step_executes _ _ _ c.args.draws.now c.args.settings.now _ _ _ c.args.creature.now _ _ c.args.view.now _ _ _ c.get.ensures.value c.decode-op.ensures c.get.ensures.after c.begin.ensures c.execute.ensures
+    step_executes _ _ _ c.args.draws.now c.args.settings.now _ _ _ c.args.creature.now _ _ c.args.view.now _ _ _ c.get.ensures.value c.decode-op.ensures c.get.ensures.after c.begin.ensures c.execute.ensures.executes
 
 pub returns-clause-ready : goal.returns-clause-ready
 returns-clause-ready g c =

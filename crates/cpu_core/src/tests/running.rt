@@ -116,10 +116,10 @@ fn run_over<V: View, L: Ledger>(
     requires few { first + count < 2000 }
 {
     let mut steps = Steps::<L>::start(blank);
-    let draws = Draws::new(settings, 1);
+    let mut draws = Draws::new(settings, 1);
     let mut act = Act::Plain;
     for i in first..first + count {
-        act = step(creature, soup, &draws, i, settings, &mut steps);
+        act = step(creature, soup, &mut draws, i, settings, &mut steps);
     }
     act
 }

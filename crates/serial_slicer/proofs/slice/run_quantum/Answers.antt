@@ -14,23 +14,23 @@ pub flip-requires-clause-within : goal.flip-requires-clause-within
 flip-requires-clause-within g c = quantum-running c.args.sole.now.world (sound-in_quantum c.args.sole.now.world c.requires.sound c.requires.more)
 
 pub disturb-requires-clause-within : goal.disturb-requires-clause-within
-disturb-requires-clause-within g c = (after_flip c.args.settings.now c.args.sole.now.world c.requires.sound c.requires.more c.requires.settings c.flip.new.self.world c.flip.ensures).quantum
+disturb-requires-clause-within g c = (after_flip c.args.settings.now c.args.sole.now.world c.requires.sound c.requires.more c.requires.settings c.flip.new.self.world c.flip.ensures.world).quantum
 
 pub disturb-requires-clause-settings : goal.disturb-requires-clause-settings
-disturb-requires-clause-settings g c = c.requires.settings ∙ sym (after_flip c.args.settings.now c.args.sole.now.world c.requires.sound c.requires.more c.requires.settings c.flip.new.self.world c.flip.ensures).settings
+disturb-requires-clause-settings g c = c.requires.settings ∙ sym (after_flip c.args.settings.now c.args.sole.now.world c.requires.sound c.requires.more c.requires.settings c.flip.new.self.world c.flip.ensures.world).settings
 
 pub begin_turn-creature-requires : goal.begin_turn-creature-requires
 begin_turn-creature-requires g c =
-    running_run c.args.settings.now c.args.sole.now.world c.requires.sound c.requires.more c.requires.settings 0 c.disturb.new.sole.world (omega arith) (none_run c.args.settings.now c.args.sole.now.world c.requires.sound c.requires.more c.requires.settings c.flip.new.self.world c.disturb.new.sole.world c.flip.ensures c.in_ok-disturb.ensures)
+    running_run c.args.settings.now c.args.sole.now.world c.requires.sound c.requires.more c.requires.settings 0 c.disturb.new.sole.world (omega arith) (none_run c.args.settings.now c.args.sole.now.world c.requires.sound c.requires.more c.requires.settings c.flip.new.self.world c.disturb.new.sole.world c.flip.ensures.world c.in_ok-disturb.ensures)
 
 pub loop-i-init : goal.loop-i-init
 loop-i-init g c =
-    let none = none_run c.args.settings.now c.args.sole.now.world c.requires.sound c.requires.more c.requires.settings c.flip.new.self.world c.disturb.new.sole.world c.flip.ensures c.in_ok-disturb.ensures in
+    let none = none_run c.args.settings.now c.args.sole.now.world c.requires.sound c.requires.more c.requires.settings c.flip.new.self.world c.disturb.new.sole.world c.flip.ensures.world c.in_ok-disturb.ensures in
     let b = c.begin_turn-creature.ensures in
     record {
       turn = b.turn;
       world = taken c.args.settings.now c.args.sole.now.world c.requires.sound c.requires.more c.requires.settings c.disturb.new.sole.world c.begin_turn-creature.new.self.world c.begin_turn-creature.result none b.world b.record;
-      draws = c.new-draws.ensures ∙ ap (λ n. draws_of c.args.settings.now (n + 1)) c.quanta.ensures;
+      draws = c.flip.ensures.draws ∙ c.new-draws.ensures ∙ ap (λ n. draws_of c.args.settings.now (n + 1)) c.quanta.ensures;
     }
 
 pub instruction-requires-clause-within : goal.instruction-requires-clause-within
@@ -56,7 +56,7 @@ instruction-requires-clause-settings g c =
 pub instruction-requires-clause-draws : goal.instruction-requires-clause-draws
 instruction-requires-clause-draws g c =
     let few : c.slice_of-slice.result ≤ 10000 = subst (λ n. n ≤ 10000) (sym c.slice_of-slice.ensures) (slice_few c.front.result.now.own.size c.args.settings.now) in
-    c.turn_to.ensures ∙ c.loop-i.invariant.draws
+    c.loop-i.invariant.draws
     ∙ ap (draws_of c.args.settings.now) (sym (quantum_then c.args.settings.now c.args.sole.now.world c.requires.sound c.requires.more c.requires.settings c.loop-i.i c.loop-i.creature c.loop-i.sole.world (omega arith) c.loop-i.invariant.turn.shares c.loop-i.invariant.world))
 
 pub instruction-requires-clause-next : goal.instruction-requires-clause-next
@@ -71,7 +71,7 @@ loop-i-preserved g c =
     record {
       turn = c.in_ok-instruction.ensures.turn;
       world = c.in_ok-instruction.ensures.world ∙ then_next c.args.settings.now c.args.sole.now.world c.requires.sound c.requires.more c.requires.settings c.loop-i.i c.loop-i.creature c.loop-i.sole.world (omega arith) c.loop-i.invariant.turn.shares c.loop-i.invariant.world;
-      draws = c.turn_to.ensures ∙ c.loop-i.invariant.draws;
+      draws = c.in_ok-instruction.ensures.draws ∙ c.loop-i.invariant.draws;
     }
 
 pub put-requires-clause-within : goal.put-requires-clause-within

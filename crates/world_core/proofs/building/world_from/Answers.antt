@@ -28,26 +28,26 @@ soup_from-requires-clause-codes c =
     let s : IsSound (the_view c.draft.inside) = subst IsSound (sym c.draft.view_is) c.requires in
     subst (All (λ v. v < 32)) (sym c.deref.ensures.value) s.codes
 
-pub living_from-requires : goal.living_from-requires
-living_from-requires c =
+pub population_from-requires-clause-ordered : goal.population_from-requires-clause-ordered
+population_from-requires-clause-ordered c =
     let s : IsSound (the_view c.draft.inside) = subst IsSound (sym c.draft.view_is) c.requires in
     subst (λ (xs : List Creature). Ordered 1 (ids_of xs)) (sym c.deref-2.ensures.value) s.ordered
 
-pub slicer_from-requires : goal.slicer_from-requires
-slicer_from-requires c id =
+pub population_from-requires-clause-in_slicer : goal.population_from-requires-clause-in_slicer
+population_from-requires-clause-in_slicer c id =
     let s : IsSound (the_view c.draft.inside) = subst IsSound (sym c.draft.view_is) c.requires in
     subst (λ (xs : List ℕ). times_in xs id ≤ 1) (sym c.deref-3.ensures.value) (omega (arith, s.slicer id, s.once id))
 
-pub reaper_from-requires-clause-once : goal.reaper_from-requires-clause-once
-reaper_from-requires-clause-once c id =
+pub population_from-requires-clause-in_reaper : goal.population_from-requires-clause-in_reaper
+population_from-requires-clause-in_reaper c id =
     let s : IsSound (the_view c.draft.inside) = subst IsSound (sym c.draft.view_is) c.requires in
     subst (λ (xs : List ℕ). times_in xs id ≤ 1) (sym c.deref-4.ensures.value) (omega (arith, s.reaper id, s.once id))
 
-pub reaper_from-requires-clause-here : goal.reaper_from-requires-clause-here
-reaper_from-requires-clause-here c id =
+pub population_from-requires-clause-here : goal.population_from-requires-clause-here
+population_from-requires-clause-here c id =
     let s : IsSound (the_view c.draft.inside) = subst IsSound (sym c.draft.view_is) c.requires in
     ap (λ (xs : List ℕ). times_in xs id) c.deref-4.ensures.value ∙ s.reaper id
-    ∙ ap (λ (xs : List Creature). times_in (ids_of xs) id) (sym (c.in_ok-living.ensures ∙ c.deref-2.ensures.value))
+    ∙ ap (λ (xs : List Creature). times_in (ids_of xs) id) (sym c.deref-2.ensures.value)
 
 pub blocks_from-requires-clause-placed : goal.blocks_from-requires-clause-placed
 blocks_from-requires-clause-placed c =
@@ -65,32 +65,19 @@ census_from-requires c =
     subst (λ (xs : List Creature). length xs < 2 ^ 60) (sym c.deref-6.ensures.value)
     (omega (arith, s.living_and_dead, s.next_birth, s.quanta))
 
-pub genotypes_from-requires : goal.genotypes_from-requires
-genotypes_from-requires c =
+pub all_genotypes-requires-clause-codes : goal.all_genotypes-requires-clause-codes
+all_genotypes-requires-clause-codes c =
     let s : IsSound (the_view c.draft.inside) = subst IsSound (sym c.draft.view_is) c.requires in
     subst (All (λ (f : Found). IsCode f.code)) (sym c.deref-7.ensures.value) (codes-written c.draft.inside.founds.items s.written)
 
-pub unwrap-genotypes-requires : goal.unwrap-genotypes-requires
-unwrap-genotypes-requires c =
+pub all_genotypes-requires-clause-once : goal.all_genotypes-requires-clause-once
+all_genotypes-requires-clause-once c code =
     let s : IsSound (the_view c.draft.inside) = subst IsSound (sym c.draft.view_is) c.requires in
-    let once : (code : List ℕ) → times_coded (genotypes_of c.deref-7.result.now) code ≤ 1
-    = λ code. subst (λ (fs : List Found). times_coded (genotypes_of fs) code ≤ 1) (sym c.deref-7.ensures.value) (s.coded_once code) in
-    elim c.in_ok-found.found as (λ o. IfNone o (((code : List ℕ) → times_coded (genotypes_of c.deref-7.result.now) code ≤ 1) → ⊥) → IsSome o) [
-      | None ↦ (λ no. absurd (no once))
-      | Some g ↦ (λ no. refl)
-    ] c.in_ok-found.ensures.none
-
--- the reaper queue shows the errors of the living
-pub of-population-requires : goal.of-population-requires
-of-population-requires c =
-    let living = c.in_ok-living.living.creatures in
-    let ids = c.deref-4.result.now in
-    let is = c.in_ok-reaper.ensures in
-    is ∙ ap (entries_of living) (sym (ap entry_ids is ∙ ids-entries (λ id. (one_of living id).errors) ids))
+    subst (λ (fs : List Found). times_coded (genotypes_of fs) code ≤ 1) (sym c.deref-7.ensures.value) (s.coded_once code)
 
 pub of-running-requires : goal.of-running-requires
 of-running-requires c =
-    let living = c.of-population.ensures.living ∙ c.in_ok-living.ensures ∙ c.deref-2.ensures.value in
+    let living = c.in_ok-population.ensures.living ∙ c.deref-2.ensures.value in
     let n = c.draft.inside.settings.soup_size in
     record {
       size = c.in_ok-blocks.ensures.size;
@@ -103,33 +90,27 @@ of-running-requires c =
 pub finish-requires : goal.finish-requires
 finish-requires c =
     let d = c.draft.inside in
-    let shown = c.in_ok-reaper.ensures in
-    let ids = c.deref-4.result.now in
-    let genotypes = subst (λ o. IfSome o (λ g. g.genotypes ≡ genotypes_of c.deref-7.result.now)) c.unwrap-genotypes.ensures c.in_ok-found.ensures.some in
-    let same : c.of-running.result.world ≡ the_view d = world-from c.of-running.result.world (the_view d) (ap (λ (w : World). w.settings) c.of-running.ensures)
-    (ap (λ (w : World). w.soup) c.of-running.ensures ∙ c.in_ok-soup.ensures ∙ c.deref.ensures.value)
-    (ap (λ (w : World). w.living) c.of-running.ensures ∙ c.of-population.ensures.living ∙ c.in_ok-living.ensures ∙ c.deref-2.ensures.value)
-    (ap (λ (w : World). w.slicer) c.of-running.ensures ∙ c.of-population.ensures.slicer ∙ c.in_ok-slicer.ensures ∙ c.deref-3.ensures.value)
-    (ap (λ (w : World). w.reaper) c.of-running.ensures ∙ c.of-population.ensures.reaper ∙ ap entry_ids shown
-    ∙ ids-entries (λ id. (one_of c.in_ok-living.living.creatures id).errors) ids ∙ c.deref-4.ensures.value)
-    (ap (λ (w : World). w.genotypes) c.of-running.ensures ∙ c.of-genes.ensures.genotypes ∙ genotypes ∙ ap genotypes_of c.deref-7.ensures.value)
-    (ap (λ (w : World). w.saved) c.of-running.ensures ∙ c.of-genes.ensures.saved) (ap (λ (w : World). w.births) c.of-running.ensures) (ap (λ (w : World). w.deaths) c.of-running.ensures)
-    (ap (λ (w : World). w.next_birth) c.of-running.ensures) (ap (λ (w : World). w.quanta) c.of-running.ensures) in
+    let is = c.of-running.ensures in
+    let same : c.of-running.result.world ≡ the_view d = world-from c.of-running.result.world (the_view d) (ap (λ (w : World). w.settings) is)
+    (ap (λ (w : World). w.soup) is ∙ c.in_ok-soup.ensures ∙ c.deref.ensures.value)
+    (ap (λ (w : World). w.living) is ∙ c.in_ok-population.ensures.living ∙ c.deref-2.ensures.value)
+    (ap (λ (w : World). w.slicer) is ∙ c.in_ok-population.ensures.slicer ∙ c.deref-3.ensures.value)
+    (ap (λ (w : World). w.reaper) is ∙ c.in_ok-population.ensures.reaper ∙ c.deref-4.ensures.value)
+    (ap (λ (w : World). w.genotypes) is ∙ c.of-genes.ensures.genotypes ∙ c.in_ok-genotypes.ensures ∙ ap genotypes_of c.deref-7.ensures.value)
+    (ap (λ (w : World). w.saved) is ∙ c.of-genes.ensures.saved) (ap (λ (w : World). w.births) is) (ap (λ (w : World). w.deaths) is)
+    (ap (λ (w : World). w.next_birth) is) (ap (λ (w : World). w.quanta) is) in
     subst IsSound (sym (same ∙ c.draft.view_is)) c.requires
 
 pub returns : goal.returns
 returns c =
     let d = c.draft.inside in
-    let shown = c.in_ok-reaper.ensures in
-    let ids = c.deref-4.result.now in
-    let genotypes = subst (λ o. IfSome o (λ g. g.genotypes ≡ genotypes_of c.deref-7.result.now)) c.unwrap-genotypes.ensures c.in_ok-found.ensures.some in
-    let same : c.of-running.result.world ≡ the_view d = world-from c.of-running.result.world (the_view d) (ap (λ (w : World). w.settings) c.of-running.ensures)
-    (ap (λ (w : World). w.soup) c.of-running.ensures ∙ c.in_ok-soup.ensures ∙ c.deref.ensures.value)
-    (ap (λ (w : World). w.living) c.of-running.ensures ∙ c.of-population.ensures.living ∙ c.in_ok-living.ensures ∙ c.deref-2.ensures.value)
-    (ap (λ (w : World). w.slicer) c.of-running.ensures ∙ c.of-population.ensures.slicer ∙ c.in_ok-slicer.ensures ∙ c.deref-3.ensures.value)
-    (ap (λ (w : World). w.reaper) c.of-running.ensures ∙ c.of-population.ensures.reaper ∙ ap entry_ids shown
-    ∙ ids-entries (λ id. (one_of c.in_ok-living.living.creatures id).errors) ids ∙ c.deref-4.ensures.value)
-    (ap (λ (w : World). w.genotypes) c.of-running.ensures ∙ c.of-genes.ensures.genotypes ∙ genotypes ∙ ap genotypes_of c.deref-7.ensures.value)
-    (ap (λ (w : World). w.saved) c.of-running.ensures ∙ c.of-genes.ensures.saved) (ap (λ (w : World). w.births) c.of-running.ensures) (ap (λ (w : World). w.deaths) c.of-running.ensures)
-    (ap (λ (w : World). w.next_birth) c.of-running.ensures) (ap (λ (w : World). w.quanta) c.of-running.ensures) in
+    let is = c.of-running.ensures in
+    let same : c.of-running.result.world ≡ the_view d = world-from c.of-running.result.world (the_view d) (ap (λ (w : World). w.settings) is)
+    (ap (λ (w : World). w.soup) is ∙ c.in_ok-soup.ensures ∙ c.deref.ensures.value)
+    (ap (λ (w : World). w.living) is ∙ c.in_ok-population.ensures.living ∙ c.deref-2.ensures.value)
+    (ap (λ (w : World). w.slicer) is ∙ c.in_ok-population.ensures.slicer ∙ c.deref-3.ensures.value)
+    (ap (λ (w : World). w.reaper) is ∙ c.in_ok-population.ensures.reaper ∙ c.deref-4.ensures.value)
+    (ap (λ (w : World). w.genotypes) is ∙ c.of-genes.ensures.genotypes ∙ c.in_ok-genotypes.ensures ∙ ap genotypes_of c.deref-7.ensures.value)
+    (ap (λ (w : World). w.saved) is ∙ c.of-genes.ensures.saved) (ap (λ (w : World). w.births) is) (ap (λ (w : World). w.deaths) is)
+    (ap (λ (w : World). w.next_birth) is) (ap (λ (w : World). w.quanta) is) in
     ap (λ (f : WorldFields). f.world) c.finish.ensures ∙ same ∙ c.draft.view_is
