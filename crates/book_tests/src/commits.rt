@@ -167,6 +167,34 @@ fn the_second_is_stale_where_the_first_wrote(rt: HostRuntime) -> Result<(), Fail
     two_quanta::<_, Brand>(&rt, rt.alloc(), Blank::new(1))
 }
 
+/// The first finding is offered. Where there is no memory for its commit it is dropped, and the quantum is committed anew.
+fn fresh_or_missing<R: Abort, L: Ledger>(rt: &R, alloc: Global, blank: Blank) -> Result<(), Fail>
+    requires name { blank.name ≡ L.name }
+    requires parts { blank.parts ≡ L.parts }
+    requires some { 0 < L.parts }
+{
+    let mut steps = Steps::<L>::start(blank);
+    let mut book = book_of(alloc, TWO, 2, 4)?;
+    let Some(first) = next_finding(alloc, &mut book, &mut steps)? else {
+        panic!(rt; "no first job")
+    };
+    let answer = offer(alloc, &mut book, first, 1, &mut steps);
+    if answer == Offered::OutOfMemory {
+        assert_eq!(rt; book.committed(), 0);
+        assert_eq!(rt; book.advance(alloc, 1, &mut steps), Advanced::Committed);
+        assert_eq!(rt; entry_at(&book, 0), Some(entry(1, 1, How::Missing)));
+    } else {
+        assert_eq!(rt; answer, Offered::Committed(1));
+        assert_eq!(rt; entry_at(&book, 0), Some(entry(1, 1, How::Fresh)));
+    }
+    Ok(())
+}
+
+#[test]
+fn a_finding_that_finds_no_memory_is_missing(rt: HostRuntime) -> Result<(), Fail> {
+    fresh_or_missing::<_, Brand>(&rt, rt.alloc(), Blank::new(1))
+}
+
 /// The finding of the sixth job of a book, if there is one.
 fn sixth<L: Ledger>(alloc: Global, steps: &mut Steps<L>) -> Result<Option<Finding>, Fail> {
     let mut wide = book_of(alloc, SIX, 10, 6)?;

@@ -3,7 +3,7 @@ use Rattle.std.proofs.Common.{◌≡◌, ◌≤◌, ◌<◌, ◌+◌, ◌-◌, �
 use Rattle.std.specs.Prelude.{All, None, count_by, filter, fold, map, nat_le, not, ◌==◌}
 use Rattle.std.specs.List.{flat_map, range_with_len}
 use Rattle.std.proofs.lemmas.Bool.Decides.{nat_tests}
-use Rattle.std.proofs.lemmas.List.{append-nil, append_assoc, length-map}
+use Rattle.std.proofs.lemmas.List.{append-nil, append_assoc, append_cancel_left, length-map}
 use Rattle.std.proofs.lemmas.List.Concat.{flat_map-append}
 use Rattle.std.proofs.lemmas.List.Elements.{All-append, All-map, filter-append}
 use Rattle.std.proofs.lemmas.List.FromFn.{length-range_with_len, map-range_with_len_more}
@@ -22,6 +22,7 @@ use Rattle.tierra_model.specs.Setups.{IsSetup, SetupFields, block_of}
 use Rattle.tierra_model.specs.Sound.{IsSound}
 use Rattle.tierra_model.specs.World.{World}
 use Rattle.tierra_model.proofs.Owners.{ids_of-append, times_in-append}
+use Rattle.tierra_model.proofs.Sound.{quantum-sound}
 use Rattle.tierra_model.proofs.StartIsSound.{serial_is_sound}
 use Rattle.serial_slicer.proofs.Serials.{serial-next, start-new}
 use Rattle.run_log.specs.declared.record.Record.{Record}
@@ -278,25 +279,21 @@ start-count setup =
     sym (sym (length-map (start setup).living (λ (c : Creature). c.id)) ∙ ap length (inocula-ids setup.creatures (empty_world setup.settings))
     ∙ length-range_with_len 1 (length setup.creatures))
 
--- v is the world before quantum n + 1, w the one after it; the log and the living are those of v
-pub record IsTurn (setup : SetupFields) (n : ℕ) (v w : World) : Type 0 where
-  pub before : v ≡ serial setup n
-  pub after : w ≡ serial setup (n + 1)
+-- v is the world before a quantum, w the one after it
+pub record IsTurn (v w : World) : Type 0 where
   pub sound_before : IsSound v
   pub sound_after : IsSound w
   pub later : IsLater v w
-  pub tracks : Tracks (length (start setup).living) n (run_records setup n) v
+  pub few : w.next_birth < COUNT_END
 
-pub is-turn : (setup : SetupFields) (n : ℕ) (v w : World) → IsSetup setup → n + 1 ≤ MOST_QUANTA → v ≡ serial setup n → w ≡ quantum v → IsTurn setup n v w
-is-turn setup n v w h few before next =
-    let after : w ≡ serial setup (n + 1) = next ∙ ap quantum before ∙ sym (serial-next setup n) in
+pub is-turn : (v w : World) (q : ℕ) → IsSound v → q ≡ v.quanta + 1 → q ≤ MOST_QUANTA → w ≡ quantum v → IsTurn v w
+is-turn v w q sound number more next =
+    let after : IsSound w = subst IsSound (sym next) (quantum-sound v sound (omega arith)) in
     record {
-      before = before;
-      after = after;
-      sound_before = subst IsSound (sym before) (serial_is_sound setup n h (omega arith)).sound;
-      sound_after = subst IsSound (sym after) (serial_is_sound setup (n + 1) h few).sound;
+      sound_before = sound;
+      sound_after = after;
       later = subst (IsLater v) (sym next) (later-quantum v);
-      tracks = subst (λ (u : World). Tracks (length (start setup).living) n (run_records setup n) u) (sym before) (run-tracks setup n h (omega arith));
+      few = omega (arith, after.next_birth, after.quanta);
     }
 
 pub turn-order : (setup : SetupFields) (n : ℕ) (rs : List Record) → IsSetup setup → n + 1 ≤ MOST_QUANTA → rs ≡ run_records setup n → All (λ r. quantum_of r ≤ n + 1) rs
@@ -310,13 +307,23 @@ pub turn-living : (inoculated n i : ℕ) (rs qs : List Record) (living : List �
 turn-living inoculated n i rs qs living v t same is ids =
     ids ∙ sym t.living ∙ sym (ap (λ (k : ℕ). living_in k qs) same ∙ ap (living_in inoculated) is)
 
--- the numbers that are noted are those given out
-pub turn-born : (setup : SetupFields) (n i : ℕ) (v w : World) → IsTurn setup n v w → i ≡ length (start setup).living
-    → range_with_len (i + v.births + 1) (i + w.births + 1 - (i + v.births + 1)) ≡ born_in v w
-turn-born setup n i v w t is =
-    let first : i + v.births + 1 ≡ v.next_birth = omega (arith, t.tracks.next_birth, is) in
-    let count : i + w.births + 1 - (i + v.births + 1) ≡ w.next_birth - v.next_birth = omega (arith, t.tracks.next_birth, is, t.later.births, t.later.next_birth) in
-    ap (λ (a : ℕ). range_with_len a (i + w.births + 1 - (i + v.births + 1))) first ∙ ap (range_with_len v.next_birth) count
+-- those noted before the deaths of a quantum are those who lived before it or were born in it
+pub turn-lived : (i b d : ℕ) (v w : World) (old new : List ℕ) → IsTurn v w → v.next_birth ≡ i + v.births + 1 → b ≡ v.births → d ≡ w.births → old ≡ ids_of v.living
+    → new ≡ old ++ range_with_len (i + b + 1) (i + d + 1 - (i + b + 1)) → new ≡ lived_in v w
+turn-lived i b d v w old new t numbers before after ids noted =
+    let first : i + b + 1 ≡ v.next_birth = omega arith in
+    let count : i + d + 1 - (i + b + 1) ≡ w.next_birth - v.next_birth = omega (arith, t.later.births, t.later.next_birth) in
+    noted ∙ ap (λ (l : List ℕ). l ++ range_with_len (i + b + 1) (i + d + 1 - (i + b + 1))) ids
+    ∙ (λ k. ids_of v.living ++ range_with_len (first k) (count k))
+
+-- the births and deaths noted are the records of the quantum
+pub turn-records : (q : ℕ) (v w : World) (rs born dead : List Record) (old ids : List ℕ) (lived : List ℕ) → old ≡ ids_of v.living → born ≡ rs ++ map (λ id. Birth q id) ids
+    → lived ≡ old ++ ids → dead ≡ born ++ map (λ id. Death q id) (filter (λ id. not (lives w id)) lived) → lived ≡ lived_in v w → dead ≡ rs ++ records_in q v w
+turn-records q v w rs born dead old ids lived is births noted deaths seen =
+    let given : ids ≡ born_in v w = append_cancel_left (ids_of v.living) ids (born_in v w) (ap (λ (l : List ℕ). l ++ ids) (sym is) ∙ sym noted ∙ seen) in
+    deaths ∙ (λ k. births k ++ map (λ id. Death q id) (filter (λ id. not (lives w id)) (seen k)))
+    ∙ ap (λ (l : List ℕ). (rs ++ map (λ id. Birth q id) l) ++ map (λ id. Death q id) (dead_in v w)) given
+    ∙ append_assoc rs (map (λ id. Birth q id) (born_in v w)) (map (λ id. Death q id) (dead_in v w))
 
 pub living-after : (i q : ℕ) (rs now : List Record) (old new ids : List ℕ) → old ≡ living_in i rs → now ≡ rs ++ map (λ id. Birth q id) ids → new ≡ old ++ ids → new ≡ living_in i now
 living-after i q rs now old new ids is noted more =

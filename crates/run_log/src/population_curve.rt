@@ -4,10 +4,13 @@ ghost use Rattle.std.specs.Prelude.{All, ◌≡◌, ◌+◌, ◌-◌, ◌<◌, �
 ghost use Rattle.std.specs.List.{flat_map, range_with_len};
 ghost use Rattle.tierra_model.specs.declared.limits.TheConstants.{COUNT_END, MOST_QUANTA};
 ghost use Rattle.tierra_model.specs.Counting.{times_in};
+ghost use Rattle.tierra_model.specs.Living.{ids_of};
+ghost use Rattle.tierra_model.specs.Quantum.{quantum as world_after};
 ghost use Rattle.tierra_model.specs.Serial.{serial};
 ghost use Rattle.tierra_model.specs.Setups.{IsSetup};
+ghost use Rattle.tierra_model.specs.Sound.{IsSound};
 ghost use Rattle.run_log.specs.declared.record.Record.TheVariants as record_of;
-ghost use Rattle.run_log.specs.Curve.{counts_of, curve_text, is_shown, lives, point_line, record_line, run_records, shown};
+ghost use Rattle.run_log.specs.Curve.{counts_of, curve_text, is_shown, lives, point_line, record_line, records_in, run_records, shown};
 ghost use Rattle.run_log.specs.Records.{living_in, point_of, quantum_of, up_to};
 
 use crate::log::{Log, Point};
@@ -42,15 +45,41 @@ fn log_of_run(alloc: Global, setup: &Setup, quanta: u64) -> Result<Log, OutOfMem
     let mut log = Log::new(alloc, inoculated);
     let mut living = numbers(alloc, inoculated)?;
     for before in 0..quanta {
-        let first = inoculated + run.births() + 1;
-        let dead = run.deaths();
-        run.next(alloc)?;
-        let next = inoculated + run.births() + 1;
-        note_births(&mut log, &mut living, before + 1, first, next)?;
-        let died = run.deaths() - dead;
-        living = note_deaths(alloc, &mut log, living, &run, before + 1, died)?;
+        living = note_quantum(alloc, &mut log, living, &mut run, inoculated, before + 1)?;
     }
     Ok(log)
+}
+
+// Runs the next quantum, which has this number, and notes who is born and who dies in it. `living` are those who live before it, and
+// the answer is who lives after it.
+fn note_quantum(
+    alloc: Global,
+    log: &mut Log,
+    mut living: Vec<u64>,
+    run: &mut InPlace,
+    inoculated: u64,
+    quantum: u64,
+) -> Result<Vec<u64>, OutOfMemory>
+    requires sound { IsSound run.old }
+    requires quantum { quantum ≡ run.old.quanta + 1 }
+    requires more { quantum ≤ MOST_QUANTA }
+    requires numbers { run.old.next_birth ≡ inoculated + run.old.births + 1 }
+    requires living { living.items ≡ ids_of run.old.living }
+    requires noted { living.items ≡ living_in log.old.inoculated log.old.records }
+    requires order { All (λ r. quantum_of r ≤ quantum) log.old.records }
+    ensures run { OnOk result (run.new ≡ world_after run.old) }
+    ensures living { IfOk result (λ left. left.items ≡ ids_of run.new.living) }
+    ensures inoculated { log.new.inoculated ≡ log.old.inoculated }
+    ensures records { OnOk result (log.new.records ≡ log.old.records ++ records_in quantum run.old run.new) }
+{
+    let first = inoculated + run.births() + 1;
+    let dead = run.deaths();
+    run.next(alloc)?;
+    let next = inoculated + run.births() + 1;
+    note_births(log, &mut living, quantum, first, next)?;
+    let died = run.deaths() - dead;
+    let left = note_deaths(alloc, log, living, run, quantum, died)?;
+    Ok(left)
 }
 
 // How many creatures there are at the start.
