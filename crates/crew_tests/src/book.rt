@@ -1,6 +1,7 @@
 //! A book hands out jobs, and stands behind the turn lock.
 
-ghost use Rattle.std.specs.Prelude.{◌≡◌, ◌^◌, ◌<◌};
+ghost use Rattle.std.specs.Prelude.{◌≡◌, ◌^◌, ◌<◌, ℕ, IsSome};
+ghost use Rattle.turn_lock.specs.Seats.{own_of};
 
 use commit_book::{Advanced, Book, Claim};
 use quantum_run::{Finding, Job};
@@ -11,7 +12,7 @@ use std::sync::Wait;
 use std::sync::ledger::{Blank, Ledger};
 use std::test::Fail;
 use step_count::Steps;
-use test_soups::setup_of;
+use test_soups::{TWO, setup_of};
 use turn_lock::{Seat, TurnLock};
 
 // A hundred cells, with one creature at cell 5.
@@ -54,11 +55,43 @@ fn advance_once<R: Wait, L: Ledger>(
     requires lock { seat.lock ≡ lock.now }
     requires room { seat.turns < 2 ^ 40 }
     ensures lock { result.lock ≡ seat.lock }
+    ensures last { result.last_caller ≡ seat.last_caller }
+    ensures speaks { (c : ℕ) → IsSome (own_of seat c) → IsSome (own_of result c) }
 {
     let caller = seat.caller();
     let (turn, mut book) = lock.take(rt, seat);
     let _answer = book.advance(alloc, caller, steps);
-    lock.give(turn, book)
+    let seat = lock.give(turn, book);
+    seat
+}
+
+// Two callers advance the book once each, and the lock is closed.
+fn two_callers<R: Abort + Wait, L: Ledger>(rt: &R, alloc: Global, blank: Blank) -> Result<(), Fail>
+    requires name { blank.name ≡ L.name }
+    requires parts { blank.parts ≡ L.parts }
+    requires some { 0 < L.parts }
+{
+    let mut steps = Steps::<L>::start(blank);
+    let book = Book::begin(alloc, setup_of(alloc, TWO)?, 2, 4)?;
+    let Ok((lock, mut first)) = TurnLock::of(alloc, book) else {
+        panic!(rt; "no room for a lock")
+    };
+    let second = lock.split(&mut first, 2)?;
+    let first = advance_once(rt, alloc, &lock, first, &mut steps);
+    let second = advance_once(rt, alloc, &lock, second, &mut steps);
+    let all = lock.join_seats(first, second);
+    assert_eq!(rt;
+        [all.own(1), all.own(2), all.own(3)],
+        [Some(1), Some(1), None]
+    );
+    let book = lock.close(all);
+    assert_eq!(rt; book.committed(), 2);
+    Ok(())
+}
+
+#[test]
+fn each_caller_advances_the_book_once(rt: HostRuntime) -> Result<(), Fail> {
+    two_callers::<_, Brand>(&rt, rt.alloc(), Blank::new(1))
 }
 
 // A finding is offered, and a job claimed.

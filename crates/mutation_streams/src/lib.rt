@@ -134,7 +134,7 @@ impl Draws {
 
     // Words 3 + 4 i to 6 + 4 i.
     #[tactic(auto, unfolding(tierra_model::specs::Draw::word))]
-    #[inline]
+    #[inline(always)]
     fn words_of(&mut self, i: u32) -> [u32; 4]
         ensures words { let w = word self.old.seed self.old.quantum in
             result ≡ w (3 + 4 * i) ∷ w (4 + 4 * i) ∷ w (5 + 4 * i) ∷ w (6 + 4 * i) ∷ [] }

@@ -48,7 +48,7 @@ impl Reading {
     }
 
     /// The words of instruction `i`. Where it is a later one than before, the stream is read on.
-    #[inline]
+    #[inline(always)]
     pub(crate) fn words_of(&mut self, i: u32) -> [u32; 4]
         ensures words { result ≡ instruction_words self.old.key self.old.stream i }
         ensures turned { self.new ≡ record self.old { instruction = i } }
@@ -60,6 +60,7 @@ impl Reading {
     }
 
     // Goes to another instruction.
+    #[inline(never)]
     fn turn_to(&mut self, i: u32)
         ensures { self.new ≡ record self.old { instruction = i } }
     {

@@ -50,8 +50,8 @@ fn log_of_run(alloc: Global, setup: &Setup, quanta: u64) -> Result<Log, OutOfMem
     Ok(log)
 }
 
-// Runs the next quantum, which has this number, and notes who is born and who dies in it. `living` are those who live before it, and
-// the answer is who lives after it.
+// Runs the next quantum, which has this number, and notes who is born and who dies in it. `living` are those who live
+// before it, and the answer is who lives after it.
 fn note_quantum(
     alloc: Global,
     log: &mut Log,

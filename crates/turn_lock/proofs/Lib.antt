@@ -17,4 +17,4 @@ mod Turning
 mod Returning
 mod Mirroring
 mod Merging
-mod Speaking
+pub mod Speaking
