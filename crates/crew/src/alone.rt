@@ -1,10 +1,10 @@
-//! A run with one worker.
+//! A run by one worker, or what is left of it when the others have ended.
 
 ghost use Rattle.std.specs.Prelude.{◌≡◌, ◌<◌, ◌≤◌, IfOk, length, true};
 ghost use Rattle.crew.specs.Hands.{IsUnhalted, run_bank};
+ghost use Rattle.crew.specs.declared.runs.Ran.TheVariants.{Halted};
 ghost use Rattle.crew.specs.Rans.{HaltsAsIn, IfEnded, IfHalted};
 
-use crate::finish::hand_rest;
 use crate::hand::{Hand, Next};
 use crate::handing::{hand_over, new_groups};
 use crate::runs::Ran;
@@ -29,8 +29,7 @@ pub(crate) fn run_alone<G: Gate, H: Hand>(alloc: Global, book: Book, gate: &G, h
     'savings: while book.committed() < book.quanta() {
         let groups = new_groups(alloc, &book, hand.done()).ok();
         if hand_over(hand, groups) == Next::Halt {
-            book.stop();
-            return Ran::Halted(book);
+            return halted(book);
         }
         let Ok(worked) = work_on(alloc, book, gate) else {
             return Ran::OutOfMemory;
@@ -48,4 +47,35 @@ fn work_on<G: Gate>(alloc: Global, book: Book, gate: &G) -> Result<Book, OutOfMe
 {
     let worked = book.work_on(alloc, gate)?;
     Ok(worked)
+}
+
+// Hands over all groups that are left, of a book that has committed all.
+fn hand_rest<H: Hand>(alloc: Global, book: Book, hand: &mut H) -> Ran
+    requires all { book.committed ≡ book.quanta }
+    requires hand { IsUnhalted (book.setup, book.quanta) (H.setup hand.old) (H.quanta hand.old)
+        (H.done hand.old) (H.halts hand.old) (H.can_put hand.old) }
+    ensures ended { IfEnded result (λ b. b ≡ book) }
+    ensures all_put { IfEnded result (λ b. H.done hand.new ≡ length (run_bank book.setup book.quanta)) }
+    ensures halted { IfHalted result (λ b. b ≡ record book { stopped = true }) }
+    ensures halts { HaltsAsIn result (H.halts hand.new) }
+    ensures setup { H.setup hand.new ≡ H.setup hand.old }
+    ensures quanta { H.quanta hand.new ≡ H.quanta hand.old }
+    ensures later { H.goes_to hand.old hand.new }
+{
+    let Ok(groups) = new_groups(alloc, &book, hand.done()) else {
+        return Ran::OutOfMemory;
+    };
+    match hand.put(groups) {
+        Next::Go => Ran::Ended(book),
+        Next::Halt => halted(book),
+    }
+}
+
+/// Stops a book whose hand halted.
+pub(crate) fn halted(book: Book) -> Ran
+    ensures { result ≡ Halted (record book { stopped = true }) }
+{
+    let mut book = book;
+    book.stop();
+    Ran::Halted(book)
 }

@@ -7,6 +7,7 @@ ghost use Rattle.crew.specs.Works.{HasWorked};
 
 use crate::hand::{Hand, Next};
 use crate::handing::{groups_since, hand_over};
+use crate::trial::Trial;
 use crate::turns::{finding_of, serve};
 use commit_book::{Book, Gate};
 use quantum_run::{Finding, Job, Workspace};
@@ -126,6 +127,7 @@ pub(crate) fn lead<R: Wait, G: Gate, H: Hand>(
     ensures later { H.goes_to hand.old hand.new }
 {
     let mut workspace = Workspace::new(alloc);
+    let mut trial = Trial::new();
     let mut kept = 0;
     let mut turned = lead_turn(rt, alloc, lock, seat, None, hand.done(), &mut kept);
     for _ in 0..2 * turned.quanta + 1 {
@@ -141,7 +143,7 @@ pub(crate) fn lead<R: Wait, G: Gate, H: Hand>(
                 next: Next::Halt,
             };
         }
-        let Some(job) = job else {
+        let Some(job) = trial.admit(job) else {
             return Led {
                 seat,
                 next: Next::Go,

@@ -6,11 +6,11 @@
 #![tactic(auto)]
 
 mod alone;
-mod finish;
 mod hand;
 mod handing;
 mod lead;
 mod runs;
+mod trial;
 mod turns;
 mod worker;
 

@@ -10,11 +10,11 @@ ghost use Rattle.crew.specs.Hands.{AreNext, HaltsBy, IsUnhalted, WasLed, run_ban
 ghost use Rattle.crew.specs.Rans.{HaltsAsIn, IfEnded, IfHalted};
 ghost use Rattle.crew.specs.Works.{HasWorked, IsFirst, IsOther, IsThere, SpeaksFrom};
 
-use crate::alone::run_alone;
-use crate::finish::finish;
+use crate::alone::{halted, run_alone};
 use crate::hand::{Hand, Next};
 use crate::lead::{Led, lead};
-use crate::worker::work;
+use crate::trial::Trial;
+use crate::worker::work_while;
 use commit_book::{Book, Gate};
 use std::alloc::Global;
 use std::sync::Wait;
@@ -47,7 +47,7 @@ fn work_with<R: Wait, G: Gate>(
     let Some(seat) = seat.take() else {
         unreachable!()
     };
-    work(rt, alloc, lock, seat, gate)
+    work_while(rt, alloc, lock, seat, gate, Trial::new())
 }
 
 /// A seat for the next caller, split off from that of worker 1.
@@ -154,12 +154,9 @@ pub fn run_crew<R: Threads + Wait + Sync, G: Gate + Sync, H: Hand>(
     };
     let mut first = Some(first);
     let Led { seat, next } = crew_from(rt, alloc, &lock, &mut first, 2, workers, gate, hand);
-    let mut book = lock.close(seat);
+    let book = lock.close(seat);
     match next {
-        Next::Go => finish(alloc, book, hand),
-        Next::Halt => {
-            book.stop();
-            Ran::Halted(book)
-        }
+        Next::Go => run_alone(alloc, book, gate, hand),
+        Next::Halt => halted(book),
     }
 }

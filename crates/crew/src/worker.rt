@@ -4,6 +4,7 @@ ghost use Rattle.std.specs.Prelude.{◌≡◌, ◌+◌, ◌*◌, ◌<◌, ◌≤
 ghost use Rattle.turn_lock.specs.Seats.{own_of};
 ghost use Rattle.crew.specs.Works.{HasWorked};
 
+use crate::trial::Trial;
 use crate::turns::{Turned, finding_of, turn};
 use commit_book::{Book, Gate};
 use quantum_run::{Job, Workspace};
@@ -49,6 +50,23 @@ pub fn work<R: Wait, G: Gate>(
     requires room { seat.turns < 2 ^ 39 }
     ensures worked { HasWorked (2 * lock.now.opening.setup.1 + 2) seat result }
 {
+    work_while(rt, alloc, lock, seat, gate, Trial::passed())
+}
+
+/// The same, until the trial ends it.
+pub(crate) fn work_while<R: Wait, G: Gate>(
+    rt: &R,
+    alloc: Global,
+    lock: &TurnLock<Book>,
+    seat: Seat,
+    gate: &G,
+    trial: Trial,
+) -> Seat
+    requires lock { seat.lock ≡ lock.now }
+    requires room { seat.turns < 2 ^ 39 }
+    ensures worked { HasWorked (2 * lock.now.opening.setup.1 + 2) seat result }
+{
+    let mut trial = trial;
     let mut workspace = Workspace::new(alloc);
     let Turned {
         mut seat,
@@ -56,7 +74,7 @@ pub fn work<R: Wait, G: Gate>(
         quanta,
     } = turn(rt, alloc, lock, seat, None);
     for _ in 0..2 * quanta + 1 {
-        let Some(this) = job else {
+        let Some(this) = trial.admit(job) else {
             break;
         };
         let turned = round(rt, alloc, lock, seat, gate, &mut workspace, this);

@@ -106,11 +106,12 @@ impl Gate for HoldGate {
     }
 }
 
-// Counts the calls, and waits for nobody.
+// Counts the calls, and those of other workers than the first before a job. It waits for nobody.
 #[derive(Drop)]
 struct CountGate {
     befores: AtomicU64,
     afters: AtomicU64,
+    befores_of_others: AtomicU64,
 }
 
 impl CountGate {
@@ -118,13 +119,17 @@ impl CountGate {
         CountGate {
             befores: AtomicU64::new(0),
             afters: AtomicU64::new(0),
+            befores_of_others: AtomicU64::new(0),
         }
     }
 }
 
 impl Gate for CountGate {
-    fn before(&self, _worker: u32, _quantum: u64) {
+    fn before(&self, worker: u32, _quantum: u64) {
         self.befores.fetch_add(1, Ordering::SeqCst);
+        if worker > 1 {
+            self.befores_of_others.fetch_add(1, Ordering::SeqCst);
+        }
     }
 
     fn after(&self, _worker: u32, _quantum: u64) {
@@ -136,32 +141,34 @@ impl Gate for CountGate {
 const SAVED: &str = "soup_size = 100\nsave_at = 1\n[[creature]]\nat = 0\ncode = 'inc_b mov_iab'\n\
     [[creature]]\nat = 90\ncode = 'nop_1 nop_1 nop_1 nop_1 nop_1'\n";
 
-// A book of 200 quanta of a soup file, and a hand for it.
+// A book of a soup file, and a hand for it.
 fn begin(
     alloc: Global,
+    quanta: u64,
     window: u32,
     file: &str,
     is_to_halt: bool,
 ) -> Result<(Book, CountHand), Fail>
-    requires { (1 ≤ window) × (window ≤ 128) }
+    requires quanta { (1 ≤ quanta) × (quanta ≤ 4000000) }
+    requires window { (1 ≤ window) × (window ≤ 128) }
     ensures book { IfOk result (λ r. (r.0.committed ≡ 0) × (r.1.setup.value ≡ r.0.setup) × (r.1.quanta ≡ r.0.quanta)) }
     ensures hand { IfOk result (λ r. (r.1.done ≡ 0) × (r.1.halts ≡ 0)) }
 {
     let setup = setup_of(alloc, file)?;
     let hand = CountHand {
         setup: Snapshot::of(&setup),
-        quanta: 200,
+        quanta,
         done: 0,
         halts: 0,
         is_to_halt,
     };
-    let book = Book::begin(alloc, setup, 200, window)?;
+    let book = Book::begin(alloc, setup, quanta, window)?;
     Ok((book, hand))
 }
 
 #[test]
 fn a_hold_ends_by_another_worker(rt: HostRuntime) -> Result<(), Fail> {
-    let (book, mut hand) = begin(rt.alloc(), 6, TWO, false)?;
+    let (book, mut hand) = begin(rt.alloc(), 200, 6, TWO, false)?;
     let gate = HoldGate::new();
     let ran = run_crew(&rt, rt.alloc(), book, 3, &gate, &mut hand);
     assert!(rt; matches!(ran, Ran::Ended(_)));
@@ -172,7 +179,7 @@ fn a_hold_ends_by_another_worker(rt: HostRuntime) -> Result<(), Fail> {
 
 #[test]
 fn one_worker_runs_each_quantum(rt: HostRuntime) -> Result<(), Fail> {
-    let (book, mut hand) = begin(rt.alloc(), 2, TWO, false)?;
+    let (book, mut hand) = begin(rt.alloc(), 200, 2, TWO, false)?;
     let gate = CountGate::new();
     let ran = run_crew(&rt, rt.alloc(), book, 1, &gate, &mut hand);
     let Ran::Ended(book) = ran else {
@@ -191,6 +198,17 @@ fn one_worker_runs_each_quantum(rt: HostRuntime) -> Result<(), Fail> {
 }
 
 #[test]
+fn others_end_after_a_hundred_short_jobs(rt: HostRuntime) -> Result<(), Fail> {
+    let (book, mut hand) = begin(rt.alloc(), 2000, 6, TWO, false)?;
+    let gate = CountGate::new();
+    let ran = run_crew(&rt, rt.alloc(), book, 3, &gate, &mut hand);
+    assert!(rt; matches!(ran, Ran::Ended(_)));
+    assert!(rt; gate.befores.load(Ordering::SeqCst) > 1000);
+    assert!(rt; gate.befores_of_others.load(Ordering::SeqCst) <= 200);
+    Ok(())
+}
+
+#[test]
 fn each_group_is_handed_over(rt: HostRuntime) -> Result<(), Fail> {
     hand_over_all(&rt, rt.alloc(), 1)?;
     hand_over_all(&rt, rt.alloc(), 2)?;
@@ -205,7 +223,7 @@ fn hand_over_all<R: Threads + Wait + Sync + Abort>(
 ) -> Result<(), Fail>
     requires { (1 ≤ workers) × (workers ≤ 64) }
 {
-    let (book, mut hand) = begin(alloc, 2 * workers, SAVED, false)?;
+    let (book, mut hand) = begin(alloc, 200, 2 * workers, SAVED, false)?;
     let ran = run_crew(rt, alloc, book, workers, &CountGate::new(), &mut hand);
     let Ran::Ended(book) = ran else {
         panic!(rt; "not ended")
@@ -228,7 +246,7 @@ fn halt_at_once<R: Threads + Wait + Sync + Abort>(
 ) -> Result<(), Fail>
     requires { (1 ≤ workers) × (workers ≤ 64) }
 {
-    let (book, mut hand) = begin(alloc, 2 * workers, SAVED, true)?;
+    let (book, mut hand) = begin(alloc, 200, 2 * workers, SAVED, true)?;
     let ran = run_crew(rt, alloc, book, workers, &CountGate::new(), &mut hand);
     let Ran::Halted(mut book) = ran else {
         panic!(rt; "not halted")

@@ -1,5 +1,0 @@
--- The counter is over the ledger of its blank.
-use Rattle.crew.proofs.finish.advance_one.Given as goal
-
-abbrev pub ghosts-counted_advance : goal.ghosts-counted_advance
-ghosts-counted_advance a = record { name = a.blank.name; parts = a.blank.parts }
