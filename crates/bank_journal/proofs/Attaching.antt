@@ -12,7 +12,7 @@ use Rattle.file_journal.specs.Files as files
 use Rattle.file_journal.specs.Opening.{IsLeftOrMaking, IsNew}
 use Rattle.file_journal.specs.declared.header.Header.{Header}
 use Rattle.file_journal.proofs.Times.{becomes_now}
-use Rattle.bank_journal.specs.Journal.{Attaches, BankState, Has, IsAtRest, SaysAsBefore, header_for}
+use Rattle.bank_journal.specs.Bank.{Attaches, BankState, Has, IsAtRest, SaysAsBefore, header_for}
 use Rattle.bank_journal.specs.Steps.{IsTold}
 use Rattle.bank_journal.proofs.Appending.{front, rest_of}
 use Rattle.bank_journal.proofs.AtRest.{header_of, rest_says}

@@ -24,9 +24,9 @@ impl Model for Blocks {
     ghost use Rattle.std.specs.Prelude.{◌-◌, vec_len};
     ghost use Rattle.std.specs.Vec.{vec_capacity};
     ghost use Rattle.block_alloc.specs.Runs.{AreFree};
-    ghost use Rattle.block_alloc.specs.Space.{Space};
+    ghost use Rattle.block_alloc.specs.Blocks.{BlocksFields};
 
-    ghost Value = { Space };
+    ghost Value = { BlocksFields };
 
     ghost view = { λ b. record { size = b.size; free = b.free.items; spare = vec_capacity b.free - vec_len b.free } };
 

@@ -10,7 +10,7 @@ use Rattle.tierra_model.proofs.Each.{Each, each-append}
 use Rattle.commit_book.specs.declared.history.Line.{Line}
 use Rattle.commit_book.specs.declared.history.Way.{Way}
 use Rattle.commit_book.specs.declared.history.Way.TheVariants as way
-use Rattle.commit_book.specs.Histories.{IsThere, KeepsLines, entries_of, how_by}
+use Rattle.commit_book.specs.History.{IsThere, KeepsLines, entries_of, how_by}
 
 abbrev pub entry_of : List Stale → ℕ → Line → Entry
 entry_of ds n l = record { quantum = n + 1; creature = l.creature; by = l.by; how = how_by ds l.way }

@@ -13,7 +13,7 @@ use Rattle.tierra_model.specs.World.{World, first_of}
 use Rattle.tierra_model.proofs.FirstDifference.{difference_tells}
 use Rattle.tierra_model.proofs.StartIsSound.{serial_is_sound}
 use Rattle.commit_book.specs.Alone.{after_own, own_finding, with_own}
-use Rattle.commit_book.specs.Books.{BookFields, how_by, how_of, next_entry, next_how, place_of, with_finding, world_of}
+use Rattle.commit_book.specs.Book.{BookFields, how_by, how_of, next_entry, next_how, place_of, with_finding, world_of}
 use Rattle.commit_book.specs.Kept.{IsBook}
 use Rattle.commit_book.proofs.Committing.{own-agrees}
 use Rattle.commit_book.proofs.Keeping.{IsSoundBook, book-sound, finding-is_book, next-is_book}

@@ -2,7 +2,7 @@
 use Rattle.std.specs.Prelude.{suc, zero, ℕ, ◌<◌, ◌≡◌, ◌≤◌}
 use Rattle.tierra_model.specs.Findings.{Finding, finding_of}
 use Rattle.tierra_model.specs.Scene.{scene_of}
-use Rattle.commit_book.specs.Books.{BookFields, with_finding, with_next, world_of}
+use Rattle.commit_book.specs.Book.{BookFields, with_finding, with_next, world_of}
 
 -- what the next quantum finds in the present world
 abbrev pub own_finding : BookFields → Finding

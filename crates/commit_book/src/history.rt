@@ -1,7 +1,7 @@
 //! How the quanta were committed.
 
 ghost use Rattle.std.specs.Prelude.{◌≡◌, ◌+◌, ◌++◌, ◌<◌, ◌∷◌, [], IfOk, OnErr, OnOk, Some, length, slice_get};
-ghost use Rattle.commit_book.specs.Histories.{IsThere, KeepsLines, how_by};
+ghost use Rattle.commit_book.specs.History.{IsThere, KeepsLines, how_by};
 
 use std::alloc::Global;
 use std::marker::Model;
@@ -35,7 +35,7 @@ impl Model for History {
     ghost use Rattle.std.specs.Prelude.{List, length};
     ghost use Rattle.tierra_model.specs.declared.history.Entry.{Entry};
     ghost use Rattle.tierra_model.proofs.Each.{Each};
-    ghost use Rattle.commit_book.specs.Histories.{IsThere, entries_of};
+    ghost use Rattle.commit_book.specs.History.{IsThere, entries_of};
 
     ghost Value = { List Entry };
 
@@ -89,7 +89,7 @@ impl History {
     }
 }
 
-// As which way it is kept, with its difference.
+// How the line of a quantum says how it was committed. A difference goes into the list.
 fn way_of(how: How, differences: &mut Vec<Stale>) -> Result<Way, OutOfMemory>
     ensures how { IfOk result (λ w. how_by differences.new.items w ≡ how) }
     ensures there { IfOk result (IsThere (length differences.new.items)) }

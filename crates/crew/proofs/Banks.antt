@@ -6,7 +6,7 @@ use Rattle.tierra_model.specs.Genebank.{bank, group_if_any, saved_in}
 use Rattle.tierra_model.specs.Groups.{GroupFields}
 use Rattle.tierra_model.specs.Serial.{serial}
 use Rattle.tierra_model.specs.Setups.{SetupFields}
-use Rattle.crew.specs.Hands.{AreNext, run_bank}
+use Rattle.crew.specs.Hand.{AreNext, run_bank}
 
 bank-suc : (setup : SetupFields) (q : ℕ) → bank setup (suc q) ≡ bank setup q ++ group_if_any q (saved_in q (serial setup q))
 unfolding bank

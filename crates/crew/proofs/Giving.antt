@@ -1,7 +1,7 @@
 -- What several calls of a book in one turn may change together.
 use Rattle.std.proofs.Common.{◌∙◌, refl, arith, ℕ}
 use Rattle.turn_lock.specs.declared.view.Summary.{Summary}
-use Rattle.turn_lock.specs.Summaries.{Commits}
+use Rattle.turn_lock.specs.Summary.{Commits}
 
 pub commits_none : (caller : ℕ) (b : Summary) → Commits caller b b
 commits_none caller b = record {

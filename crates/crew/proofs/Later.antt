@@ -1,7 +1,7 @@
 -- A book whose quanta one worker runs alone is of the same run, and has committed as many more.
 use Rattle.std.proofs.Common.{◌≡◌, ℕ, zero, suc, ◌+◌, refl, arith}
 use Rattle.commit_book.specs.Alone.{after_own}
-use Rattle.commit_book.specs.Books.{BookFields}
+use Rattle.commit_book.specs.Book.{BookFields}
 
 pub record IsLater (k : ℕ) (old new : BookFields) : Type 0 where
   pub setup : new.setup ≡ old.setup

@@ -4,8 +4,8 @@ use Rattle.std.specs.Prelude.{IsSomeAnd, is_some}
 use mathlib.Core.Logic.{dite}
 use native.Mathlib.Decide.{ℕ_discrete}
 use Rattle.turn_lock.specs.declared.view.Summary.{Summary}
-use Rattle.turn_lock.specs.Seats.{SeatFields, TurnFields, own_of}
-use Rattle.turn_lock.specs.Summaries.{Commits}
+use Rattle.turn_lock.specs.Seat.{SeatFields, TurnFields, own_of}
+use Rattle.turn_lock.specs.Summary.{Commits}
 use Rattle.turn_lock.proofs.OwnCounts.{value_where}
 use Rattle.crew.specs.Works.{HasWorked}
 

@@ -5,7 +5,7 @@ use Rattle.std.specs.Option.{option_or}
 use Rattle.std.proofs.lemmas.Option.{same_Some}
 use mathlib.Core.Logic.{dite}
 use native.Mathlib.Decide.{ℕ_discrete}
-use Rattle.turn_lock.specs.Seats.{LockFields, SeatFields, SpeaksForAll, first_seat, new_seat, only, own_of}
+use Rattle.turn_lock.specs.Seat.{LockFields, SeatFields, SpeaksForAll, first_seat, new_seat, only, own_of}
 use Rattle.crew.specs.Works.{HasWorked, IsFirst, IsOther, IsThere, SpeaksFrom}
 
 -- the seat that is there is that one

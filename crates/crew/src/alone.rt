@@ -1,9 +1,9 @@
 //! A run by one worker, or what is left of it when the others have ended.
 
 ghost use Rattle.std.specs.Prelude.{◌≡◌, ◌<◌, ◌≤◌, IfOk, length, true};
-ghost use Rattle.crew.specs.Hands.{IsUnhalted, run_bank};
+ghost use Rattle.crew.specs.Hand.{IsUnhalted, run_bank};
 ghost use Rattle.crew.specs.declared.runs.Ran.TheVariants.{Halted};
-ghost use Rattle.crew.specs.Rans.{HaltsAsIn, IfEnded, IfHalted};
+ghost use Rattle.crew.specs.Ran.{HaltsAsIn, IfEnded, IfHalted};
 
 use crate::hand::{Hand, Next};
 use crate::handing::{hand_over, new_groups};

@@ -1,7 +1,7 @@
 //! Groups of the genebank on their way from the book to the hand.
 
 ghost use Rattle.std.specs.Prelude.{◌≡◌, ◌≤◌, IfOk, IfSome, drop, length};
-ghost use Rattle.crew.specs.Hands.{AreNext, HaltsBy, run_bank};
+ghost use Rattle.crew.specs.Hand.{AreNext, HaltsBy, run_bank};
 
 use crate::hand::{Hand, Next};
 use commit_book::Book;

@@ -2,7 +2,7 @@
 
 ghost use Rattle.std.specs.Prelude.{◌≡◌, ◌+◌, ◌<◌, ◌≤◌, ◌^◌, IfSome, length};
 ghost use Rattle.tierra_model.specs.declared.limits.TheConstants.{MOST_QUANTA};
-ghost use Rattle.crew.specs.Hands.{AreNext, HaltsBy, run_bank};
+ghost use Rattle.crew.specs.Hand.{AreNext, HaltsBy, run_bank};
 ghost use Rattle.crew.specs.Works.{HasWorked};
 
 use crate::hand::{Hand, Next};
@@ -110,6 +110,7 @@ pub(crate) fn lead<R: Wait, G: Gate, H: Hand>(
     lock: &TurnLock<Book>,
     seat: Seat,
     gate: &G,
+    trial: &Trial,
     hand: &mut H,
 ) -> Led
     requires lock { seat.lock ≡ lock.now }
@@ -127,7 +128,6 @@ pub(crate) fn lead<R: Wait, G: Gate, H: Hand>(
     ensures later { H.goes_to hand.old hand.new }
 {
     let mut workspace = Workspace::new(alloc);
-    let mut trial = Trial::new();
     let mut kept = 0;
     let mut turned = lead_turn(rt, alloc, lock, seat, None, hand.done(), &mut kept);
     for _ in 0..2 * turned.quanta + 1 {

@@ -1,14 +1,11 @@
 //! The crew.
 
-ghost use Rattle.std.specs.Prelude.{◌≡◌, ◌+◌, ◌-◌, ◌<◌, ◌≤◌, IfOk, OnErr, OnOk, length, true, is_some};
+ghost use Rattle.std.specs.Prelude.{◌≡◌, ◌+◌, ◌-◌, ◌<◌, ◌≤◌, IfOk, OnErr, OnOk, length, true};
 ghost use Rattle.tierra_model.specs.declared.limits.TheConstants.{MOST_WORKERS};
 ghost use Rattle.std.specs.Thread.{IsSync};
-ghost use Rattle.tierra_model.specs.Genebank.{groups_of};
-ghost use Rattle.turn_lock.specs.Seats.{own_of};
-ghost use Rattle.commit_book.specs.Books.{world_of};
-ghost use Rattle.crew.specs.Hands.{AreNext, HaltsBy, IsUnhalted, WasLed, run_bank};
-ghost use Rattle.crew.specs.Rans.{HaltsAsIn, IfEnded, IfHalted};
-ghost use Rattle.crew.specs.Works.{HasWorked, IsFirst, IsOther, IsThere, SpeaksFrom};
+ghost use Rattle.crew.specs.Hand.{IsUnhalted, WasLed, run_bank};
+ghost use Rattle.crew.specs.Ran.{HaltsAsIn, IfEnded, IfHalted};
+ghost use Rattle.crew.specs.Works.{IsFirst, IsOther, IsThere, SpeaksFrom};
 
 use crate::alone::{halted, run_alone};
 use crate::hand::{Hand, Next};
@@ -40,6 +37,7 @@ fn work_with<R: Wait, G: Gate>(
     caller: u32,
     seat: &mut Option<Seat>,
     gate: &G,
+    trial: &Trial,
 ) -> Seat
     requires { IsThere seat.old (IsOther lock.now caller) }
     ensures { IsOther lock.now caller (record result { turns = 0 }) }
@@ -47,7 +45,7 @@ fn work_with<R: Wait, G: Gate>(
     let Some(seat) = seat.take() else {
         unreachable!()
     };
-    work_while(rt, alloc, lock, seat, gate, Trial::new())
+    work_while(rt, alloc, lock, seat, gate, trial)
 }
 
 /// A seat for the next caller, split off from that of worker 1.
@@ -70,6 +68,7 @@ fn crew_from<R: Threads + Wait + Sync, G: Gate + Sync, H: Hand>(
     caller: u32,
     workers: u32,
     gate: &G,
+    trial: &Trial,
     hand: &mut H,
 ) -> Led
     requires seat { IsThere first.old (IsFirst lock.now caller) }
@@ -84,10 +83,10 @@ fn crew_from<R: Threads + Wait + Sync, G: Gate + Sync, H: Hand>(
         unreachable!()
     };
     if caller > workers {
-        return lead(rt, alloc, lock, seat, gate, hand);
+        return lead(rt, alloc, lock, seat, gate, trial, hand);
     }
     let Ok(other) = seat_for(lock, &mut seat, caller) else {
-        return lead(rt, alloc, lock, seat, gate, hand);
+        return lead(rt, alloc, lock, seat, gate, trial, hand);
     };
     let mut theirs = Some(other);
     let mut mine = Some(seat);
@@ -96,7 +95,7 @@ fn crew_from<R: Threads + Wait + Sync, G: Gate + Sync, H: Hand>(
         &mut || -> Seat
             requires { (IsSync R.row × IsSync G.row) × IsThere theirs (IsOther lock.now caller) }
             ensures { IsOther lock.entry.now caller (record result { turns = 0 }) }
-        { work_with(rt, alloc, lock, caller, &mut theirs, gate) },
+        { work_with(rt, alloc, lock, caller, &mut theirs, gate, trial) },
         &mut || -> Led
             requires { (IsSync R.row × IsSync G.row) × IsThere mine (IsFirst lock.now (caller + 1))
                 × ((2 ≤ caller) × (caller ≤ workers) × (workers ≤ MOST_WORKERS))
@@ -106,7 +105,19 @@ fn crew_from<R: Threads + Wait + Sync, G: Gate + Sync, H: Hand>(
                 × WasLed result.next (H.setup hand.entry.now) (H.setup hand.exit.now)
                 (H.quanta hand.entry.now) (H.quanta hand.exit.now) (H.done hand.exit.now) (H.halts hand.exit.now)
                 (H.can_put hand.exit.now) (H.goes_to hand.entry.now hand.exit.now) }
-        { crew_from(rt, alloc, lock, &mut mine, caller + 1, workers, gate, hand) },
+        {
+            crew_from(
+                rt,
+                alloc,
+                lock,
+                &mut mine,
+                caller + 1,
+                workers,
+                gate,
+                trial,
+                hand,
+            )
+        },
     );
     Led {
         seat: lock.join_seats(led.seat, other),
@@ -153,7 +164,10 @@ pub fn run_crew<R: Threads + Wait + Sync, G: Gate + Sync, H: Hand>(
         return Ran::OutOfMemory;
     };
     let mut first = Some(first);
-    let Led { seat, next } = crew_from(rt, alloc, &lock, &mut first, 2, workers, gate, hand);
+    let trial = Trial::new();
+    let Led { seat, next } = crew_from(
+        rt, alloc, &lock, &mut first, 2, workers, gate, &trial, hand,
+    );
     let book = lock.close(seat);
     match next {
         Next::Go => run_alone(alloc, book, gate, hand),

@@ -1,47 +1,66 @@
 //! Whether jobs are long enough for workers.
 
 use quantum_run::Job;
+use std::sync::atomic::{AtomicU32, AtomicU64, Ordering};
 
-/// So many jobs make the trial of a worker.
+/// How many jobs make a trial.
 const JOBS: u32 = 100;
 
-/// So many instructions a job must have, in the mean of a trial, for a worker to go on. With fewer, the turn that commits a
-/// quantum takes longer than the quantum.
-const WORTH: u64 = 2000;
+/// How many instructions a job must have, in the mean of the trial, for workers to go on. With fewer, several workers took as
+/// long as one, or longer.
+const WORTH: u64 = 3000;
 
-/// The first jobs of a worker. Where they are too short to be worth their turns, it ends.
+// What came of a trial.
+const OPEN: u32 = 0;
+
+const PASSED: u32 = 1;
+
+const FAILED: u32 = 2;
+
+/// The first jobs of the workers, all of whom share it. Where they are too short to be worth their turns, all end.
 #[derive(Drop)]
 pub(crate) struct Trial {
-    jobs_left: u32,
-    instructions_left: u64,
+    verdict: AtomicU32,
+    jobs: AtomicU32,
+    instructions: AtomicU64,
 }
 
 impl Trial {
     pub(crate) fn new() -> Trial {
-        Trial {
-            jobs_left: JOBS,
-            instructions_left: u64::from(JOBS) * WORTH,
-        }
+        Trial::with_verdict(OPEN)
     }
 
-    /// That of a worker that goes on whatever its jobs are.
+    /// That of workers that go on whatever their jobs are.
     pub(crate) fn passed() -> Trial {
+        Trial::with_verdict(PASSED)
+    }
+
+    fn with_verdict(verdict: u32) -> Trial {
         Trial {
-            jobs_left: 0,
-            instructions_left: 0,
+            verdict: AtomicU32::new(verdict),
+            jobs: AtomicU32::new(0),
+            instructions: AtomicU64::new(0),
         }
     }
 
-    /// The job, if the worker goes on with it.
-    pub(crate) fn admit(&mut self, job: Option<Job>) -> Option<Job> {
+    /// The job, if its worker goes on with it.
+    pub(crate) fn admit(&self, job: Option<Job>) -> Option<Job> {
         let job = job?;
-        if self.jobs_left == 0 && self.instructions_left > 0 {
-            return None;
+        match self.verdict.load(Ordering::Relaxed) {
+            FAILED => return None,
+            OPEN => self.count(u64::from(job.slice())),
+            _ => {}
         }
-        self.jobs_left = self.jobs_left.saturating_sub(1);
-        self.instructions_left = self
-            .instructions_left
-            .saturating_sub(u64::from(job.slice()));
         Some(job)
+    }
+
+    // Counts a job. The worker that counts the last one decides for all.
+    fn count(&self, slice: u64) {
+        let before = self.instructions.fetch_add(slice, Ordering::Relaxed);
+        if self.jobs.fetch_add(1, Ordering::Relaxed) == JOBS - 1 {
+            let enough = before.wrapping_add(slice) >= u64::from(JOBS) * WORTH;
+            let verdict = if enough { PASSED } else { FAILED };
+            self.verdict.store(verdict, Ordering::Relaxed);
+        }
     }
 }

@@ -1,10 +1,8 @@
 //! What a worker does with the book while it has it.
 
-ghost use Rattle.std.specs.Prelude.{◌≡◌, ◌+◌, ◌<◌, ◌≤◌, ◌^◌, IfOk, drop};
+ghost use Rattle.std.specs.Prelude.{◌≡◌, ◌<◌, ◌≤◌, ◌^◌};
 ghost use Rattle.tierra_model.specs.declared.limits.TheConstants.{MOST_QUANTA, MOST_WORKERS};
-ghost use Rattle.tierra_model.specs.Genebank.{bank};
 ghost use Rattle.commit_book.specs.Giving.{MayGive};
-ghost use Rattle.crew.specs.Hands.{AreNext, run_bank};
 ghost use Rattle.crew.specs.Works.{HasWorked};
 
 use commit_book::{Advanced, Book, Claim};

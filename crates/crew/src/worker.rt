@@ -1,7 +1,6 @@
 //! A worker.
 
-ghost use Rattle.std.specs.Prelude.{◌≡◌, ◌+◌, ◌*◌, ◌<◌, ◌≤◌, ◌^◌, ℕ, is_some};
-ghost use Rattle.turn_lock.specs.Seats.{own_of};
+ghost use Rattle.std.specs.Prelude.{◌≡◌, ◌+◌, ◌*◌, ◌<◌, ◌^◌, is_some};
 ghost use Rattle.crew.specs.Works.{HasWorked};
 
 use crate::trial::Trial;
@@ -50,23 +49,22 @@ pub fn work<R: Wait, G: Gate>(
     requires room { seat.turns < 2 ^ 39 }
     ensures worked { HasWorked (2 * lock.now.opening.setup.1 + 2) seat result }
 {
-    work_while(rt, alloc, lock, seat, gate, Trial::passed())
+    work_while(rt, alloc, lock, seat, gate, &Trial::passed())
 }
 
-/// The same, until the trial ends it.
+/// The same, until the trial ends it too.
 pub(crate) fn work_while<R: Wait, G: Gate>(
     rt: &R,
     alloc: Global,
     lock: &TurnLock<Book>,
     seat: Seat,
     gate: &G,
-    trial: Trial,
+    trial: &Trial,
 ) -> Seat
     requires lock { seat.lock ≡ lock.now }
     requires room { seat.turns < 2 ^ 39 }
     ensures worked { HasWorked (2 * lock.now.opening.setup.1 + 2) seat result }
 {
-    let mut trial = trial;
     let mut workspace = Workspace::new(alloc);
     let Turned {
         mut seat,

@@ -1,7 +1,7 @@
 //! A book hands out jobs, and stands behind the turn lock.
 
 ghost use Rattle.std.specs.Prelude.{◌≡◌, ◌^◌, ◌<◌, ℕ, IsSome};
-ghost use Rattle.turn_lock.specs.Seats.{own_of};
+ghost use Rattle.turn_lock.specs.Seat.{own_of};
 
 use commit_book::{Advanced, Book, Claim};
 use quantum_run::{Finding, Job};

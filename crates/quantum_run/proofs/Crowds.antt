@@ -15,7 +15,7 @@ use Rattle.tierra_model.specs.Yard.{yard}
 use Rattle.tierra_model.proofs.DisturbanceCounts.{length-reaper}
 use Rattle.tierra_model.proofs.SumOfSizes.{Lies, sizes_fit}
 use Rattle.tierra_model.specs.Scene.{Scene, scene_of}
-use Rattle.quantum_run.specs.Jobs.{OfSoundWorld}
+use Rattle.quantum_run.specs.Job.{OfSoundWorld}
 
 filled : (n : ℕ) → length (replicate {A = ℕ} n 0) ≡ n
 filled n = length-replicate {A = ℕ} n 0

@@ -3,8 +3,8 @@ pub mod Seen
 pub mod Pages
 pub mod SeenLaws
 pub mod Shelves
-pub mod Jobs
-pub mod Found
+pub mod Job
+pub mod Finding
 pub mod OnScene
 pub mod Outcomes
 pub mod ReadyLaws

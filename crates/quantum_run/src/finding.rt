@@ -17,7 +17,7 @@ pub struct Finding {
 
 impl Model for Finding {
     ghost use Rattle.tierra_model.specs.Findings as findings;
-    ghost use Rattle.quantum_run.specs.Found.{Kept};
+    ghost use Rattle.quantum_run.specs.Finding.{Kept};
 
     ghost Value = { findings.Finding };
 
@@ -40,7 +40,7 @@ impl Model for Finding {
     }) };
 }
 
-ghost use Rattle.quantum_run.specs.Found.{Kept};
+ghost use Rattle.quantum_run.specs.Finding.{Kept};
 
 impl Finding {
     pub(crate) fn of(quantum: u64, sheet: Box<Sheet>) -> Finding

@@ -1,4 +1,4 @@
-//! The free cells as a quantum sees them that runs alone.
+//! The free cells as seen by a quantum that runs alone.
 
 ghost use Rattle.std.specs.Prelude.{◌≡◌, ◌+◌, ◌<◌, ◌≤◌, ◌^◌, ◌&&◌, ◌||◌, ℕ, IfOk, length, not, true, false};
 ghost use Rattle.tierra_model.specs.Blocks.{is_in};
@@ -23,9 +23,9 @@ pub(crate) struct FreeCells<'a> {
 impl<'a> Model for FreeCells<'a> {
     ghost use Rattle.std.specs.Prelude.{◌≡◌, ◌+◌, ◌-◌, ◌≤◌, if◌then◌else◌, length, false, true};
     ghost use Rattle.block_alloc.specs.Runs.{AreRuns};
-    ghost use Rattle.block_alloc.specs.Space.{Space};
+    ghost use Rattle.block_alloc.specs.Blocks.{BlocksFields};
 
-    ghost Value = { Space };
+    ghost Value = { BlocksFields };
 
     ghost view = { λ f. record {
       size = f.size;

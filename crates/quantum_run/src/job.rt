@@ -4,7 +4,7 @@ ghost use Rattle.std.specs.Prelude.{◌≡◌, ◌+◌, ◌-◌, ◌<◌, ◌≤
 ghost use Rattle.std.specs.Arc.{arc_value};
 ghost use Rattle.tierra_model.specs.Quantum as quantum;
 ghost use Rattle.tierra_model.specs.Scene.{Scene};
-ghost use Rattle.quantum_run.specs.Jobs.{OfSoundWorld};
+ghost use Rattle.quantum_run.specs.Job.{OfSoundWorld};
 
 use crate::scratch::{Lists, Room, Sheet};
 use slicer_queue::slice_of;
@@ -30,7 +30,7 @@ impl Model for Job {
     ghost use Rattle.std.specs.Prelude.{◌-◌, ◌<◌, ◌≤◌, ◌^◌, length};
     ghost use Rattle.std.specs.Arc.{arc_value};
     ghost use Rattle.tierra_model.specs.Scene.{Scene};
-    ghost use Rattle.quantum_run.specs.Jobs.{OfSoundWorld};
+    ghost use Rattle.quantum_run.specs.Job.{OfSoundWorld};
 
     ghost Value = { Scene };
 

@@ -1,9 +1,9 @@
-//! What a quantum leaves that ran in a scene.
+//! What is left by a quantum that ran in a scene.
 
 ghost use Rattle.std.specs.Prelude.{◌≡◌, ◌<◌, ◌^◌, length};
 ghost use Rattle.std.specs.Arc.{arc_value};
 ghost use Rattle.tierra_model.specs.Reads.{some_if};
-ghost use Rattle.quantum_run.specs.Found.{Kept};
+ghost use Rattle.quantum_run.specs.Finding.{Kept};
 ghost use Rattle.quantum_run.specs.Outcomes.{finding_by};
 
 use crate::finding::Finding;

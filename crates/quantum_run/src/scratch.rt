@@ -1,7 +1,7 @@
 //! Memory that quanta use one after another.
 
 ghost use Rattle.std.specs.Prelude.{◌≡◌, ◌≤◌, [], IfOk, vec_capacity, vec_len};
-ghost use Rattle.read_sets.specs.Noted.{nothing};
+ghost use Rattle.read_sets.specs.Reads.{nothing};
 
 use block_alloc::Blocks;
 use read_sets::Reads;

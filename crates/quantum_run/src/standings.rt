@@ -1,4 +1,4 @@
-//! The yard as a quantum sees it that runs alone.
+//! The yard as seen by a quantum that runs alone.
 
 ghost use Rattle.std.specs.Prelude.{◌≡◌, ◌+◌, ◌++◌, ◌<◌, ◌≤◌, ◌^◌, ◌∷◌, [], IfOk, length, remove, slice_index_or};
 ghost use Rattle.tierra_model.specs.Queue.{error_move, good_move};

@@ -5,7 +5,7 @@ ghost use Rattle.tierra_model.proofs.Each.{Each};
 ghost use Rattle.quantum_run.specs.Marks.{IsUnknown};
 ghost use Rattle.tierra_model.specs.Findings.{finding_of};
 ghost use Rattle.tierra_model.specs.Quantum as quantum;
-ghost use Rattle.quantum_run.specs.Found.{IsFound};
+ghost use Rattle.quantum_run.specs.Finding.{IsFound};
 ghost use Rattle.quantum_run.specs.Outcomes.{IsOutcome};
 
 use crate::cells::UNKNOWN;

@@ -2,7 +2,7 @@
 
 ghost use Rattle.std.specs.Prelude.{◌≡◌, ◌++◌, ◌+◌, ◌<◌, ◌≤◌, ◌^◌, ◌∷◌, [], IfOk, IfSome, None, OnOk, Some, length, option_map, slice_get};
 ghost use Rattle.std.specs.Arc.{arc_value};
-ghost use Rattle.read_sets.specs.Noted.{nothing};
+ghost use Rattle.read_sets.specs.Reads.{nothing};
 
 use std::alloc::Global;
 use std::marker::Model;
@@ -23,9 +23,9 @@ impl Model for Reads {
     ghost use Rattle.std.specs.Prelude.{◌-◌, ◌<◌, ◌^◌, IfSome, length, min, option_map, vec_len};
     ghost use Rattle.std.specs.Arc.{arc_value};
     ghost use Rattle.std.specs.Vec.{vec_capacity};
-    ghost use Rattle.read_sets.specs.Noted.{Noted};
+    ghost use Rattle.read_sets.specs.Reads.{ReadsFields};
 
-    ghost Value = { Noted };
+    ghost Value = { ReadsFields };
 
     // Places are numbers of 32 bits, so room beyond them does not count.
     ghost view = { λ r. record {

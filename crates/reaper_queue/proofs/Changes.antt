@@ -5,7 +5,7 @@ use Rattle.std.proofs.lemmas.List.{get_or_read, length-map}
 use Rattle.tierra_model.specs.Counting.{times_in}
 use Rattle.std.specs.Prelude.{filter, nat_lt, not, slice_index, swap, ◌==◌}
 use Rattle.tierra_model.specs.Queue.{error_move, good_move}
-use Rattle.reaper_queue.specs.Queue.{is_of, errors_of, errors_in, with_error}
+use Rattle.reaper_queue.specs.Reaper.{is_of, errors_of, errors_in, with_error}
 use Rattle.reaper_queue.proofs.Found.{id_at}
 use Rattle.reaper_queue.proofs.OnlyAt.{OnlyAt, only_of, map-only, filter-only}
 use Rattle.reaper_queue.proofs.Moves.{error_move-top, error_move-below, good_move-bottom, good_move-above}

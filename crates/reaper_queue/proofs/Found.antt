@@ -5,7 +5,7 @@ use Rattle.std.proofs.lemmas.List.Quantifiers.{position-Some}
 use Rattle.std.specs.Prelude.{None, Some, position, slice_index}
 use Rattle.std.specs.List.{position_or_len}
 use Rattle.tierra_model.specs.Counting.{times_in}
-use Rattle.reaper_queue.specs.Queue.{ids_of, is_of}
+use Rattle.reaper_queue.specs.Reaper.{ids_of, is_of}
 use Rattle.reaper_queue.specs.Standing.{IsOnce, StandsAt}
 
 pub id_at : (xs : List (ℕ × ℕ)) (k : ℕ) → slice_index (ids_of xs) k ≡ (get_or xs k (0, 0)).0

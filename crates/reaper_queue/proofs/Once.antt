@@ -6,7 +6,7 @@ use Rattle.tierra_model.specs.Counting.{one_if, sum_of, times_in}
 use Rattle.tierra_model.specs.Queue.{error_move, good_move}
 use Rattle.tierra_model.proofs.Owners.{sum_of-append}
 use Rattle.tierra_model.proofs.Yards.{sum_of-error_move, sum_of-good_move}
-use Rattle.reaper_queue.specs.Queue.{ids_of, is_of, errors_of, with_error}
+use Rattle.reaper_queue.specs.Reaper.{ids_of, is_of, errors_of, with_error}
 use Rattle.reaper_queue.specs.Standing.{IsOnce}
 
 times-sum : (xs : List (ℕ × ℕ)) (id : ℕ) → times_in (ids_of xs) id ≡ sum_of (λ x. one_if (x.0 == id)) xs

@@ -3,7 +3,7 @@ use Rattle.std.proofs.Common.{◌≡◌, ℕ, zero, suc, ◌<◌, ◌≤◌, Lis
 use Rattle.std.proofs.lemmas.Bool.Decides.{nat_tests}
 use Rattle.std.specs.Prelude.{filter, map, not}
 use Rattle.tierra_model.specs.Counting.{times_in}
-use Rattle.reaper_queue.specs.Queue.{ids_of, is_of}
+use Rattle.reaper_queue.specs.Reaper.{ids_of, is_of}
 
 -- no element passes
 abbrev pub NonePass : {X : Type 0} → (X → Bool) → List X → Type 0

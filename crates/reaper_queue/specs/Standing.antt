@@ -1,7 +1,7 @@
 -- Where creatures stand in a queue.
 use Rattle.std.specs.Prelude.{List, length, slice_index, ℕ, ◌<◌, ◌≡◌, ◌≤◌}
 use Rattle.tierra_model.specs.Counting.{times_in}
-use Rattle.reaper_queue.specs.Queue.{ids_of}
+use Rattle.reaper_queue.specs.Reaper.{ids_of}
 
 -- nobody stands in it twice
 abbrev pub IsOnce : List (ℕ × ℕ) → Type 0

@@ -5,7 +5,7 @@ ghost use Rattle.std.specs.VecDeque.{deque_len, deque_capacity};
 ghost use Rattle.tierra_model.specs.declared.limits.TheConstants.{COUNT_END};
 ghost use Rattle.tierra_model.specs.Counting.{times_in};
 ghost use Rattle.tierra_model.specs.Queue.{error_move, good_move};
-ghost use Rattle.reaper_queue.specs.Queue.{ids_of, is_of, errors_of, errors_in, with_error};
+ghost use Rattle.reaper_queue.specs.Reaper.{ids_of, is_of, errors_of, errors_in, with_error};
 ghost use Rattle.reaper_queue.specs.Standing.{StandsAt};
 
 use crate::hints::Hints;
@@ -25,10 +25,10 @@ pub struct Reaper {
 impl Model for Reaper {
     ghost use Rattle.std.specs.Prelude.{◌-◌, ◌<◌, ◌≤◌, ◌^◌, ℕ, min};
     ghost use Rattle.std.specs.VecDeque.{deque_len, deque_capacity};
-    ghost use Rattle.reaper_queue.specs.Queue.{Queue};
+    ghost use Rattle.reaper_queue.specs.Reaper.{ReaperFields};
     ghost use Rattle.reaper_queue.specs.Standing.{IsOnce};
 
-    ghost Value = { Queue };
+    ghost Value = { ReaperFields };
 
     // Places are numbers of 32 bits, so room beyond them does not count.
     ghost view = { λ r. record {

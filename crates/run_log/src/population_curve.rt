@@ -177,7 +177,7 @@ fn note_each_death(
     Ok(left)
 }
 
-// Who lives in the world goes to `left`; of who does not, the death is noted.
+// A creature that lives in the world goes to `left`; the death of another is noted.
 fn keep_or_note(
     log: &mut Log,
     left: &mut Vec<u64>,

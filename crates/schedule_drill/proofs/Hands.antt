@@ -6,7 +6,7 @@ use Rattle.std.proofs.lemmas.List.{set-get_or}
 use Rattle.std.proofs.lemmas.List.Elements.{All-from_get_or, All-get_or, All-set}
 use Rattle.tierra_model.specs.Findings.{Finding, finding_of}
 use Rattle.tierra_model.specs.Scene.{scene_of}
-use Rattle.commit_book.specs.Books.{BookFields, after_commits, with_finding, world_of}
+use Rattle.commit_book.specs.Book.{BookFields, after_commits, with_finding, world_of}
 use Rattle.commit_book.specs.Claims.{HasJob, next_job}
 use Rattle.commit_book.specs.Offers.{StopsShort, window_end}
 use Rattle.schedule_drill.specs.declared.tally.Answered.{Answered}

@@ -1,7 +1,7 @@
 -- The hands at a book.
 use Rattle.std.specs.Prelude.{All, None, Option, Some, false, length, ℕ, ◌+◌, ◌≡◌, ◌≤◌}
 use Rattle.tierra_model.specs.Findings.{Finding}
-use Rattle.commit_book.specs.Books.{BookFields}
+use Rattle.commit_book.specs.Book.{BookFields}
 use Rattle.commit_book.specs.Offers.{window_end}
 use Rattle.schedule_drill.specs.Drill.{DrillFields}
 

@@ -4,7 +4,7 @@ use Rattle.tierra_model.specs.declared.history.Entry.{Entry}
 use Rattle.tierra_model.specs.declared.history.How.TheVariants as how
 use Rattle.tierra_model.specs.Findings.{Finding, finding_of}
 use Rattle.tierra_model.specs.Setups.{SetupFields}
-use Rattle.commit_book.specs.Books.{BookFields, after_commits, first_book, kept, run_length, with_finding, with_next}
+use Rattle.commit_book.specs.Book.{BookFields, after_commits, first_book, kept, run_length, with_finding, with_next}
 use Rattle.commit_book.specs.Claims.{most_ahead, next_job}
 use Rattle.schedule_drill.specs.declared.moves.Move.{Move}
 use Rattle.schedule_drill.specs.declared.moves.Move.TheVariants as move

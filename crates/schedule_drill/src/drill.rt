@@ -3,7 +3,7 @@
 ghost use Rattle.std.specs.Prelude.{◌≡◌, ◌+◌, ◌-◌, ◌<◌, ◌≤◌, ◌^◌, [], All, IfOk, OnOk, Some};
 ghost use Rattle.tierra_model.specs.declared.limits.TheConstants.{MOST_QUANTA};
 ghost use Rattle.tierra_model.specs.Findings.{finding_of};
-ghost use Rattle.commit_book.specs.Books.{after_commits, world_of};
+ghost use Rattle.commit_book.specs.Book.{after_commits, world_of};
 ghost use Rattle.schedule_drill.specs.AtBook.{FitsBook, IsOfRun, answers};
 ghost use Rattle.schedule_drill.specs.Drill.{after_advance, after_move, after_offer, drill, first_drill, tally_of, to_the_end};
 ghost use Rattle.schedule_drill.specs.declared.moves.Move.TheVariants as Move;

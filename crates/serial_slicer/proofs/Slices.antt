@@ -1,5 +1,5 @@
 -- The slice of a sound world: what holds of it after so many instructions, with the record kept out of the world.
-use Rattle.std.proofs.Common.{◌≡◌, ℕ, ◌+◌, ◌<◌, ◌≤◌, refl, sym, ◌∙◌, ap, subst, arith}
+use Rattle.std.proofs.Common.{◌≡◌, ℕ, zero, suc, ◌+◌, ◌*◌, ◌/◌, ◌<◌, ◌≤◌, Bool, true, false, refl, sym, ◌∙◌, ap, subst, arith, length}
 use Rattle.std.specs.Prelude.{None, Option, Some, slice_index}
 use Rattle.tierra_model.specs.declared.limits.TheConstants.{COUNT_END, MOST_QUANTA}
 use Rattle.tierra_model.specs.declared.creatures.Creature.{Creature}
@@ -8,14 +8,15 @@ use Rattle.tierra_model.specs.declared.events.Event.TheVariants as event
 use Rattle.tierra_model.specs.declared.parameters.Settings.{Settings}
 use Rattle.tierra_model.specs.Draw.{back_flip, word}
 use Rattle.tierra_model.specs.Events.{apply_event, turn_end}
-use Rattle.tierra_model.specs.Quantum.{disturb, flip, instruction, instructions, is_disturbed, quantum, run, slice_of, world_machine}
+use Rattle.tierra_model.specs.Quantum.{disturb, flip, instruction, instructions, is_disturbed, quantum, reap_times, run, slice_of, victim, world_machine}
 use Rattle.tierra_model.specs.Replay.{RecordFits}
 use Rattle.tierra_model.specs.Sound.{IsSound, count_limit}
 use Rattle.tierra_model.specs.Step.{flip_bit}
 use Rattle.tierra_model.specs.World.{World, front, put}
-use Rattle.tierra_model.proofs.AnyMachine.{FlipOf, back_flip_of}
-use Rattle.tierra_model.proofs.Commutes.{front-id, front-put}
+use Rattle.tierra_model.proofs.AnyMachine.{FlipOf, back_flip_of, place_of_first_other-is}
+use Rattle.tierra_model.proofs.Commutes.{HasFront, front-id, front-put}
 use Rattle.tierra_model.proofs.EventEffects.{settings-event}
+use Rattle.tierra_model.proofs.EventsKeep.{front-event}
 use Rattle.tierra_model.proofs.Population.{InBounds}
 use Rattle.tierra_model.proofs.Records.{flipped_below}
 use Rattle.tierra_model.proofs.Shares.{Shares, shares-fits}
@@ -44,6 +45,31 @@ flipped s w (Some c) f k =
       settings = settings-event w v;
       quanta = refl;
     }
+
+-- ---- who is at the front
+
+-- the same creature, with the same record
+front-flip : (s : Settings) (w : World) (o : Option (ℕ × ℕ)) → front (flip world_machine s o w) ≡ front w
+unfolding apply_event
+front-flip s w None = refl
+front-flip s w (Some c) = refl
+
+front-reap_times : (s : Settings) (n : ℕ) (w : World) → HasFront w → front (reap_times world_machine s n w) ≡ front w
+front-reap_times s zero w l = refl
+front-reap_times s (suc n) w l = go (victim world_machine s w) refl (front-reap_times s n)
+  where
+    go : (o : Option ℕ) → victim world_machine s w ≡ o → ((u : World) → HasFront u → front (reap_times world_machine s n u) ≡ front u)
+        → front (elim o [ None ↦ w | Some k ↦ reap_times world_machine s n (apply_event w (event.Reap k)) ]) ≡ front w
+    go None e rest = refl
+    go (Some k) e rest =
+        let f = front-event w (event.Reap k) l (place_of_first_other-is (front w).id w.reaper k e) in
+        rest (apply_event w (event.Reap k)) f.has_front ∙ f.front
+
+front-disturb : (s : Settings) (due : Bool) (w : World) → HasFront w → front (disturb world_machine s due w) ≡ front w
+front-disturb s false w l = refl
+front-disturb s true w l = front-reap_times s (length w.reaper * s.dist_percent / 100) w l
+
+-- ---- the slice
 
 module _ (s : Settings) (w : World) (sound : IsSound w) (more : w.quanta < MOST_QUANTA) (settings : s ≡ w.settings) where
   abbrev q : ℕ
@@ -75,6 +101,16 @@ module _ (s : Settings) (w : World) (sound : IsSound w) (more : w.quanta < MOST_
 
   pub taken : (v u : World) (c : Creature) → v ≡ run world_machine s q 0 w → u ≡ v → c ≡ front v → put c u ≡ run world_machine s q 0 w
   taken v u c is same record_is = (λ j. put (record_is j) (same j)) ∙ put-running v (running_run 0 v (omega arith) is) ∙ is
+
+  -- the record taken is that of the world before
+  pub first_front : (v : World) (c : Creature) → v ≡ run world_machine s q 0 w → c ≡ front v → c ≡ front w
+  unfolding run instructions
+  first_front v c is record_is =
+      let u : World = flip world_machine s (back_flip s.back_rate (word s.seed q) s.soup_size) w in
+      let flips : u ≡ flip world_machine w.settings bit w
+      = ap (λ (z : Settings). flip world_machine z (back_flip z.back_rate (word z.seed q) z.soup_size) w) settings in
+      let l : HasFront u = (after_flip u flips).quantum.within.population.has_front in
+      record_is ∙ ap front is ∙ front-disturb s (is_disturbed s.dist_every q) u l ∙ front-flip s w (back_flip s.back_rate (word s.seed q) s.soup_size)
 
   -- ---- after k instructions
 

@@ -15,8 +15,8 @@ use step_count::Steps;
 use tierra_model::{Creature, OutOfMemory};
 use world_core::World;
 
-/// A world that runs on in place, one quantum after another, for who looks at it between two of them. Where a quantum found no
-/// memory it has stopped in the middle, and the world is of no use any more.
+/// A world that runs on in place, one quantum after another, for a caller that looks at it between quanta. Where a quantum
+/// found no memory it has stopped in the middle, and the world is of no use any more.
 #[derive(Drop)]
 pub struct InPlace {
     sole: Sole,

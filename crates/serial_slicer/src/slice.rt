@@ -35,10 +35,10 @@ pub(crate) fn run_quantum<L: Ledger>(
     ensures { OnOk result (sole.new.world ≡ quantum sole.old.world) }
 {
     let mut draws = Draws::new(settings, sole.quanta() + 1);
-    let slice = slice_of(sole.front().own.size, settings);
     sole.flip(&mut draws);
     disturb(sole, settings)?;
     let mut creature = sole.begin_turn();
+    let slice = slice_of(creature.own.size, settings);
     for i in 0..slice {
         instruction(alloc, &mut creature, sole, &mut draws, i, settings, steps)?;
     }
@@ -70,7 +70,7 @@ fn is_disturbed(every: u32, quantum: u64) -> bool
     every > 0 && quantum % u64::from(every) == 0
 }
 
-// So often the first creature of the reaper queue other than the one whose turn it is dies, while there is one.
+// The first creature of the reaper queue other than the one whose turn it is dies, up to `times` times, while there is one.
 fn reap_times(sole: &mut Sole, times: u64) -> Result<(), OutOfMemory>
     requires { InQuantum sole.old.world }
     ensures { OnOk result (sole.new.world ≡ reap_times world_machine sole.old.world.settings times sole.old.world) }

@@ -20,9 +20,9 @@ impl Model for Slicer {
     ghost use Rattle.std.specs.Prelude.{◌-◌, ◌≤◌, ℕ};
     ghost use Rattle.std.specs.VecDeque.{deque_len, deque_capacity};
     ghost use Rattle.tierra_model.specs.Counting.{times_in};
-    ghost use Rattle.slicer_queue.specs.Queue.{Queue};
+    ghost use Rattle.slicer_queue.specs.Slicer.{SlicerFields};
 
-    ghost Value = { Queue };
+    ghost Value = { SlicerFields };
 
     ghost view = { λ s. record { ids = s.ids.items; spare = deque_capacity s.ids - deque_len s.ids } };
 

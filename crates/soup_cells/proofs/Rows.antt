@@ -1,9 +1,9 @@
 -- All cells of a row are ready that is not cut.
 use Rattle.std.proofs.Common.{◌≡◌, ℕ, ◌+◌, ◌/◌, ◌<◌, List, ap, arith, false, get_or, length, replicate, set, true}
 use Rattle.std.proofs.lemmas.List.{get_or-replicate, length-set}
-use Rattle.soup_cells.specs.Cells.{Cells, is_ready}
+use Rattle.soup_cells.specs.Soup.{SoupFields, is_ready}
 
-abbrev uncut : List ℕ → Cells
+abbrev uncut : List ℕ → SoupFields
 uncut row = record { cells = row; own = replicate ((length row + 16383) / 16384) true }
 
 pub row-ready : (row : List ℕ) (at : ℕ) → at < length row → is_ready (uncut row) at ≡ true

@@ -1,3 +1,3 @@
-pub mod Cells
+pub mod Soup
 pub mod Pages
 pub mod Paging

@@ -3,7 +3,7 @@ use Rattle.std.specs.Prelude.{Bool, IfSome, List, None, Option, Some, [], false,
 use Rattle.std.specs.Arc.{arc_value}
 use Rattle.soup_cells.specs.declared.soup.Paging.{Paging}
 use Rattle.soup_cells.specs.declared.soup.Paging.TheVariants.{Own, Shared, Uncut}
-use Rattle.soup_cells.specs.Cells.{Cells}
+use Rattle.soup_cells.specs.Soup.{SoupFields}
 
 -- the cells of the pages, where they are cut
 abbrev pub cells_in : Paging → Option (List ℕ)
@@ -22,7 +22,7 @@ own_of row (Own pages) = pages.own
 own_of row (Shared pages) = []
 
 -- the soup of a row and its pages
-abbrev pub soup_of : List ℕ → Paging → Cells
+abbrev pub soup_of : List ℕ → Paging → SoupFields
 soup_of row paging = record { cells = row; own = own_of row paging }
 
 abbrev pub is_cut : Paging → Bool

@@ -1,7 +1,7 @@
 //! Cells in pages.
 
 ghost use Rattle.std.specs.Prelude.{◌≡◌, ◌+◌, ◌*◌, ◌<◌, ◌^◌, ℕ, [], All, IfOk, OnOk, length, map, min, slice_index, slice_range, slice_set, true, vec_len};
-ghost use Rattle.soup_cells.specs.Cells.{is_ready};
+ghost use Rattle.soup_cells.specs.Soup.{is_ready};
 ghost use Rattle.soup_cells.specs.Pages.{page_cells};
 
 use crate::page::{PAGE_LEN, Page};
@@ -20,10 +20,10 @@ pub(crate) struct Pages {
 
 impl Model for Pages {
     ghost use Rattle.std.specs.Prelude.{map};
-    ghost use Rattle.soup_cells.specs.Cells.{Cells};
+    ghost use Rattle.soup_cells.specs.Soup.{SoupFields};
     ghost use Rattle.soup_cells.specs.Pages.{AreCells, cells_of, is_own, page_cells};
 
-    ghost Value = { Cells };
+    ghost Value = { SoupFields };
 
     ghost view = { λ s. record { cells = cells_of s.pages.items; own = map is_own s.pages.items } };
 

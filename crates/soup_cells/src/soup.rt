@@ -2,7 +2,7 @@
 
 ghost use Rattle.std.specs.Prelude.{◌≡◌, ◌<◌, ℕ, IfErr, List, IfOk, OnOk, Some, length, replicate, slice_index, slice_set, false, true};
 ghost use Rattle.std.specs.Arc.{arc_value};
-ghost use Rattle.soup_cells.specs.Cells.{is_ready};
+ghost use Rattle.soup_cells.specs.Soup.{is_ready};
 ghost use Rattle.soup_cells.specs.Paging.{AreIn, cells_in, has_own, is_cut, soup_of};
 
 use crate::pages::Pages;
@@ -31,10 +31,10 @@ pub(crate) enum Paging {
 }
 
 impl Model for Soup {
-    ghost use Rattle.soup_cells.specs.Cells.{Cells};
+    ghost use Rattle.soup_cells.specs.Soup.{SoupFields};
     ghost use Rattle.soup_cells.specs.Paging.{AreIn, soup_of};
 
-    ghost Value = { Cells };
+    ghost Value = { SoupFields };
 
     ghost view = { λ s. soup_of s.row s.paging };
 
@@ -85,7 +85,7 @@ impl Soup {
         }
     }
 
-    #[tactic(auto, unfolding(crate::specs::Cells::is_ready))]
+    #[tactic(auto, unfolding(crate::specs::Soup::is_ready))]
     /// Sets a cell that is ready.
     #[inline]
     pub fn set(&mut self, at: u32, value: u8)
@@ -154,7 +154,7 @@ fn share_pages(paging: &mut Paging) -> Result<Arc<Pages>, OutOfMemory>
     }
 }
 
-#[tactic(auto, unfolding(crate::specs::Cells::is_ready))]
+#[tactic(auto, unfolding(crate::specs::Soup::is_ready))]
 // Takes the pages back. The list of pages is copied only where a version has it still, and no cell is copied.
 fn make_own(paging: &mut Paging) -> Result<(), OutOfMemory>
     ensures cells { cells_in paging.new ≡ cells_in paging.old }

@@ -50,7 +50,7 @@ pub fn run_isles<R: Threads + Sync>(
 
 // ---- epoch 1
 
-/// The file's setup on so many isles.
+/// The file's setup on each isle.
 #[tactic(auto, unfolding(crate::specs::Runs::first_setups))]
 pub(crate) fn first_setups(
     alloc: Global,
@@ -156,7 +156,7 @@ fn run_parts<R: Threads + Sync>(
     Ok(all)
 }
 
-// How many of so many isles some of the workers run, where each worker runs as many as any other, or one more.
+// How many of the isles go to the first `some` workers. The workers' shares differ by one at most.
 fn share_of(some: u32, workers: u32, isles: usize) -> usize
     requires { (some < workers) × (workers ≤ MOST_WORKERS) }
     ensures { result ≤ isles }

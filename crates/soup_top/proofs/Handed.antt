@@ -10,7 +10,7 @@ use Rattle.tierra_model.specs.Groups.{GroupFields}
 use Rattle.tierra_model.specs.Serial.{serial}
 use Rattle.tierra_model.specs.Setups.{SetupFields}
 use Rattle.bank_recover.specs.declared.faults.BankFault.TheVariants as fault
-use Rattle.bank_journal.specs.Journal.{BankState, IsAtRest, IsAttached}
+use Rattle.bank_journal.specs.Bank.{BankState, IsAtRest, IsAttached}
 use Rattle.bank_journal.specs.Steps.{IsTold}
 use Rattle.bank_journal.proofs.Times.{for_file, stays_then}
 use Rattle.desk_io.specs.Desk.{Appended, AppendedSome, DeskState, Elapses, KeepsDisk, TellsText}

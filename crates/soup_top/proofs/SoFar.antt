@@ -7,7 +7,7 @@ use Rattle.desk_io.specs.Desk.{Appended, AppendedSome, DeskState, Elapses}
 use Rattle.desk_io.proofs.Time.{Elapses-weaker}
 use Rattle.tierra_model.specs.Genebank.{GroupsFit}
 use Rattle.tierra_model.specs.Groups.{GroupFields}
-use Rattle.bank_journal.specs.Journal.{Has}
+use Rattle.bank_journal.specs.Bank.{Has}
 use Rattle.bank_journal.specs.Steps.{StaysTold}
 use Rattle.bank_journal.proofs.Times.{each_file}
 use Rattle.report_text.specs.Bank.{saved_lines}

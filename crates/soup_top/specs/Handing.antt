@@ -2,7 +2,7 @@
 use Rattle.std.specs.Prelude.{ℕ, ◌≡◌, ◌≤◌, List, length, take, MatchOption, Option, Some, None, IfSome}
 use Rattle.tierra_model.specs.Genebank.{GroupsFit}
 use Rattle.tierra_model.specs.Groups.{GroupFields}
-use Rattle.bank_journal.specs.Journal.{BankState, IsAttached}
+use Rattle.bank_journal.specs.Bank.{BankState, IsAttached}
 use Rattle.bank_journal.specs.Steps.{StaysTold}
 use Rattle.desk_io.specs.Desk.{Appended, AppendedSome, DeskState, Elapses, KeepsDisk}
 use Rattle.report_text.specs.Bank.{saved_lines}

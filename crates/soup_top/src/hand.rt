@@ -1,9 +1,9 @@
 //! The hand of a run: takes the run's groups to its bank as they come, and tells their lines.
 
 ghost use Rattle.std.specs.Prelude.{◌≡◌, ◌+◌, ◌≤◌, IfErr, IfOk, None, OnOk, Some, length, slice_get};
-ghost use Rattle.crew.specs.Hands.{AreNext, OnGo, OnHalt};
-ghost use Rattle.crew.specs.Rans.{HaltsAsIn, IfEnded};
-ghost use Rattle.commit_book.specs.Books.{world_of};
+ghost use Rattle.crew.specs.Hand.{AreNext, OnGo, OnHalt};
+ghost use Rattle.crew.specs.Ran.{HaltsAsIn, IfEnded};
+ghost use Rattle.commit_book.specs.Book.{world_of};
 ghost use Rattle.report_text.specs.Report.{report};
 ghost use Rattle.soup_top.specs.Handing.{GoesOn, IsOnTheWay, StopsAt, TookAll, number_of_stops};
 ghost use Rattle.soup_top.specs.Sources.{run_groups, run_report};

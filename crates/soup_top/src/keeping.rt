@@ -2,7 +2,7 @@
 
 ghost use Rattle.std.specs.Prelude.{◌≡◌, ◌↔◌, ◌<◌, ◌≤◌, IfErr, IfOk, IfSome, IsTrue, MatchOption, Some, length, slice_get};
 ghost use Rattle.desk_io.specs.Desk.{Elapses, HasNoFault, KeepsDisk, Tells, TellsText, UsesDisk};
-ghost use Rattle.bank_journal.specs.Journal.{Appends, HasBeforeOrAfter, IsAttached};
+ghost use Rattle.bank_journal.specs.Bank.{Appends, HasBeforeOrAfter, IsAttached};
 ghost use Rattle.bank_journal.specs.Steps.{IfTold};
 ghost use Rattle.tierra_model.specs.Genebank.{GroupFits};
 ghost use Rattle.tierra_model.specs.Groups.{GroupFields};

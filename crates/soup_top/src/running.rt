@@ -1,7 +1,7 @@
 //! A run that keeps its genebank.
 
-ghost use Rattle.std.specs.Prelude.{◌≡◌, ◌<◌, ◌≤◌, ◌++◌, ℕ, IfErr, IfOk, IfSome, OnOk, length, take};
-ghost use Rattle.bank_journal.specs.Journal.{Attaches, IsAttached, Refuses, SaysAsBefore};
+ghost use Rattle.std.specs.Prelude.{◌≡◌, ◌<◌, ◌≤◌, ℕ, IfErr, IfOk, IfSome, OnOk, take};
+ghost use Rattle.bank_journal.specs.Bank.{Attaches, IsAttached, Refuses, SaysAsBefore};
 ghost use Rattle.bank_journal.specs.Steps.{IfTold, IsUnwritten};
 ghost use Rattle.bank_recover.specs.Bank.{IsFresh};
 ghost use Rattle.bank_recover.specs.declared.faults.BankFault.{BankFault};

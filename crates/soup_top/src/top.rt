@@ -1,10 +1,11 @@
 //! The call that does all that the program does.
 
-ghost use Rattle.std.specs.Prelude.{◌-◌, ◌≡◌, ◌⊎◌, ◌+◌, ◌<◌, ◌≤◌, [], ℕ, List, Some, IfErr, IfSome, OnErr, OnOk, Option, length, take};
+ghost use Rattle.std.specs.Prelude.{◌-◌, ◌≡◌, ◌⊎◌, ◌+◌, ◌<◌, ◌≤◌, ℕ, List, Some, IfErr, IfSome, OnErr, OnOk, Option, take};
 ghost use Rattle.tierra_model.specs.declared.limits.TheConstants.{MOST_WORKERS};
 ghost use Rattle.bank_recover.specs.declared.faults.BankFault.{BankFault};
 ghost use Rattle.soup_top.specs.declared.asking.TheConstants.{MOST_BYTES};
 ghost use Rattle.desk_io.specs.Desk.{Appended, Elapses, HasNoFault, IsTellCall, Untouched};
+ghost use Rattle.desk_io.specs.Source.{GivesAtMost, HasNoReadFault, IsDrained};
 ghost use Rattle.soup_checkpoint.specs.declared.faults.HoldFault.{HoldFault};
 ghost use Rattle.soup_hold.specs.Holding.{CanHold, IsCutShort, IsEarly, IsHoldText, RefusesHold};
 ghost use Rattle.soup_watch.specs.Watching.{IsWatchText};
@@ -207,69 +208,70 @@ pub fn tierra<R: Threads + Wait + Sync, S: Source, D: Desk, G: Gate + Sync>(
     desk: &mut D,
     gate: &G,
 ) -> Status
-    requires source_sound { S.faults source.old ≡ 0 }
+    requires source_sound { HasNoReadFault (S.state source.old) }
     requires sound { HasNoFault (D.state desk.old) }
 
     // Done has told the whole text that was asked for, and nothing else: of a run the saved lines and the report of the
     // world that the serial slicer reaches.
-    ensures done { OnDone result (IsAllTold (texts_of words.now) (S.left source.old) (D.state desk.old).reads
+    ensures done { OnDone result (IsAllTold (texts_of words.now) (S.state source.old).left (D.state desk.old).reads
         (D.state desk.old).told (D.state desk.new).told) }
 
     // A run that is done leaves a genebank that begins with that world's.
-    ensures begins { OnDone result (EachRun (texts_of words.now) (S.left source.old) (λ setup n.
+    ensures begins { OnDone result (EachRun (texts_of words.now) (S.state source.old).left (λ setup n.
         IfSome (D.state desk.old).reads (λ file.
         BeginsWith setup n file (D.state desk.new).reads (D.state desk.new).may_leave))) }
 
     // At every moment of a run, whatever it answers, a crash leaves the genebank of the serial history at some quantum,
     // with every genotype whose saved line was told.
-    ensures crash { EachRun (texts_of words.now) (S.left source.old) (λ setup n.
+    ensures crash { EachRun (texts_of words.now) (S.state source.old).left (λ setup n.
         DiskIsOfHistory setup (D.state desk.old).reads (D.state desk.old).may_leave
         → EachMoment (D.state desk.old) (D.state desk.new) (IsTrueMoment setup n (D.state desk.old).told)) }
 
     // Where the file had groups of the setup, or none yet, there are two cases at every moment of a run, whatever it
-    // answers. A crash leaves what it might have left at the start, and nothing was told since. Or it leaves those groups
-    // and, of the run's first k groups, those that were lacking. Then these k fit, the lines of the first k - 1 were told,
-    // and no line after that of group k.
-    ensures kept_up { EachRun (texts_of words.now) (S.left source.old) (λ setup n.
+    // answers. What a crash leaves says what the file said at the start, or what a crash might have left of it then, and
+    // nothing was told since. Or it says those groups and, of the run's first k groups, those that were lacking. Then these
+    // k fit, the lines of the first k - 1 were told, and no line after that of group k.
+    ensures kept_up { EachRun (texts_of words.now) (S.state source.old).left (λ setup n.
         IfSome (D.state desk.old).reads (λ file. (had : List GroupFields) → HasGroups setup had file
         → EachMoment (D.state desk.old) (D.state desk.new)
         (IsInStep setup n had (D.state desk.old).may_leave file (D.state desk.old).told))) }
 
     // A run with checkpoints that is done, and went on from a world of the serial run, has told a line for each later
     // checkpoint, and the report of the world that the serial slicer reaches.
-    ensures resumed { OnDone result (EachHold (texts_of words.now) (S.left source.old) (λ setup n every.
+    ensures resumed { OnDone result (EachHold (texts_of words.now) (S.state source.old).left (λ setup n every.
         Resumes setup n every (D.state desk.old) (D.state desk.new))) }
 
     // None of its states was too large.
-    ensures small { OnDone result (EachHold (texts_of words.now) (S.left source.old) (λ setup n every.
+    ensures small { OnDone result (EachHold (texts_of words.now) (S.state source.old).left (λ setup n every.
         IfSome (D.state desk.old).reads (λ file. CanHold setup n every (Some file)))) }
 
     // At every moment of it, whatever it answers, a crash leaves what the file held at the start, or a later checkpoint
     // of the serial run: none earlier than one that was told, and at most one that was not.
-    ensures checkpoints { EachHold (texts_of words.now) (S.left source.old) (λ setup n every. (start : Option ℕ)
+    ensures checkpoints { EachHold (texts_of words.now) (S.state source.old).left (λ setup n every. (start : Option ℕ)
         → DiskHoldsSerial setup start (D.state desk.old).reads (D.state desk.old).may_leave
         → EachMoment (D.state desk.old) (D.state desk.new) (IsTrueHold setup n every start (D.state desk.old).told)) }
 
     // Each answer has its cause.
-    ensures cause { Cause (texts_of words.now) (S.left source.old) (D.state desk.old).reads (0 < S.faults source.new)
-        (0 < (D.state desk.new).disk_faults) (0 < (D.state desk.new).tell_faults) result }
+    ensures cause { Cause (texts_of words.now) (S.state source.old).left (D.state desk.old).reads
+        (0 < (S.state source.new).faults) (0 < (D.state desk.new).disk_faults)
+        (0 < (D.state desk.new).tell_faults) result }
 
     // Accepted words and bytes give Done or want of memory where no call failed. A run needs a disk of its history
     // besides. One with checkpoints needs a file that can be read and does not go beyond the run, and states that are
     // not too large.
     ensures complete { (order : Order) (bytes text : List ℕ) → AsksFor (texts_of words.now) order
-        → read_by (kind_of order) (S.left source.old) (D.state desk.old).reads ≡ Some bytes
+        → read_by (kind_of order) (S.state source.old).left (D.state desk.old).reads ≡ Some bytes
         → IsTextOf order bytes (D.state desk.old).reads text
         → DiskIsOfRun order bytes (D.state desk.old).reads (D.state desk.old).may_leave
         → DiskIsOfHold order bytes (D.state desk.old).reads
-        → S.faults source.new ≡ 0 → (D.state desk.new).disk_faults ≡ 0 → (D.state desk.new).tell_faults ≡ 0
+        → HasNoReadFault (S.state source.new) → (D.state desk.new).disk_faults ≡ 0 → (D.state desk.new).tell_faults ≡ 0
         → (result ≡ Status.Done) ⊎ (result ≡ Status.OutOfMemory) }
 
     // Whatever the answer, what was told is the beginning of that text. At any answer but Done and a failed tell, nothing
     // was told or some of the text is lacking. Refused words, a refused source and a failed read leave the desk alone.
-    ensures prefix { IsToldInPart (texts_of words.now) (S.left source.old) (D.state desk.old).reads
+    ensures prefix { IsToldInPart (texts_of words.now) (S.state source.old).left (D.state desk.old).reads
         (D.state desk.old).told (D.state desk.new).told }
-    ensures unfinished { OnStopped result (IsUnfinished (texts_of words.now) (S.left source.old)
+    ensures unfinished { OnStopped result (IsUnfinished (texts_of words.now) (S.state source.old).left
         (D.state desk.old).reads (D.state desk.old).told (D.state desk.new).told) }
     ensures uncalled { OnUncalled result (desk.new ≡ desk.old) }
 
@@ -279,11 +281,11 @@ pub fn tierra<R: Threads + Wait + Sync, S: Source, D: Desk, G: Gate + Sync>(
         (D.state desk.new).reads ≡ (D.state desk.old).reads)) }
     ensures quiet { OnBankRefused result (λ f. IfSome (D.state desk.old).reads (λ file.
         EachMoment (D.state desk.old) (D.state desk.new) (λ image text. (D.state desk.old).may_leave image))) }
-    ensures quiet_run { EachRun (texts_of words.now) (S.left source.old) (λ setup n.
+    ensures quiet_run { EachRun (texts_of words.now) (S.state source.old).left (λ setup n.
         IfSome (D.state desk.old).reads (λ file. (f : BankFault) → RefusesRun setup n file f
         → EachMoment (D.state desk.old) (D.state desk.new) (λ image text. (D.state desk.old).may_leave image))) }
-    ensures told_at_refusal { OnBankRefused result (λ f. EachRun (texts_of words.now) (S.left source.old) (λ setup n.
-        IfSome (D.state desk.old).reads (λ file.
+    ensures told_at_refusal { OnBankRefused result (λ f.
+        EachRun (texts_of words.now) (S.state source.old).left (λ setup n. IfSome (D.state desk.old).reads (λ file.
         IsToldAtRefusal (run_groups setup n) (D.state desk.old).told (D.state desk.new).told f))) }
 
     // Checkpoints that are refused before any is appended are not written at any moment, and nothing is told.
@@ -291,24 +293,23 @@ pub fn tierra<R: Threads + Wait + Sync, S: Source, D: Desk, G: Gate + Sync>(
         × IfSome (D.state desk.old).reads (λ file. (D.state desk.new).reads ≡ (D.state desk.old).reads)) }
     ensures hold_quiet { OnHoldRefused result (IfSome (D.state desk.old).reads (λ file.
         EachMoment (D.state desk.old) (D.state desk.new) (λ image text. (D.state desk.old).may_leave image))) }
-    ensures quiet_hold { EachHold (texts_of words.now) (S.left source.old) (λ setup n every. (f : HoldFault) → IsEarly f
-        → IfSome (D.state desk.old).reads (λ file. RefusesHold setup n every (Some file) f
+    ensures quiet_hold { EachHold (texts_of words.now) (S.state source.old).left (λ setup n every. (f : HoldFault)
+        → IsEarly f → IfSome (D.state desk.old).reads (λ file. RefusesHold setup n every (Some file) f
         → EachMoment (D.state desk.old) (D.state desk.new) (λ image text. (D.state desk.old).may_leave image))) }
 
     // Only a run writes, once its source is accepted.
-    ensures untouched { GivesNothingToWrite (texts_of words.now) (S.left source.old)
+    ensures untouched { GivesNothingToWrite (texts_of words.now) (S.state source.old).left
         → Untouched (D.state desk.old) (D.state desk.new) }
 
     // A source is read to its end, and never further than one byte past the most. The genebank is told without one.
     ensures to_its_end { (order : Order) → AsksFor (texts_of words.now) order → ReadsSource (kind_of order)
-        → OnReadWhole result (IfSome (S.left source.old) (λ bytes. S.left source.new ≡ Some [])) }
+        → OnReadWhole result (IsDrained (S.state source.old) (S.state source.new)) }
     ensures unread { (order : Order) → AsksFor (texts_of words.now) order → (ReadsSource (kind_of order) → ⊥)
         → source.new ≡ source.old }
-    ensures no_further { IfSome (S.left source.old) (λ xs. IfSome (S.left source.new) (λ ys.
-        length xs ≤ length ys + (MOST_BYTES + 1))) }
+    ensures no_further { GivesAtMost (MOST_BYTES + 1) (S.state source.old) (S.state source.new) }
 
     // A count that rose is the answer.
-    ensures source_steady { UnlessReadFault result (S.faults source.new ≡ 0) }
+    ensures source_steady { UnlessReadFault result (HasNoReadFault (S.state source.new)) }
     ensures disk_steady { UnlessDiskFault result ((D.state desk.new).disk_faults ≡ 0) }
     ensures tell_steady { UnlessTellFault result ((D.state desk.new).tell_faults ≡ 0) }
 {

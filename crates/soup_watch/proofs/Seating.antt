@@ -4,7 +4,7 @@ use Rattle.std.specs.Prelude.{IsSome, IsSomeAnd, is_some}
 use Rattle.std.specs.Option.{option_or}
 use mathlib.Core.Logic.{dite}
 use native.Mathlib.Decide.{ℕ_discrete}
-use Rattle.turn_lock.specs.Seats.{LockFields, SeatFields, SpeaksForAll, own_of}
+use Rattle.turn_lock.specs.Seat.{LockFields, SeatFields, SpeaksForAll, own_of}
 use Rattle.crew.specs.Works.{HasWorked, IsFirst, IsOther}
 use Rattle.soup_watch.specs.Seats.{IsDone, IsJoined, IsLead}
 use Rattle.tierra_model.specs.declared.limits.TheConstants.{MOST_QUANTA}

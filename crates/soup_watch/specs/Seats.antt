@@ -1,7 +1,7 @@
 -- The seats of the workers and of their observer, and what it has seen.
 use Rattle.std.specs.Prelude.{All, IfSome, List, None, Some, is_some, length, true, ℕ, ◌*◌, ◌+◌, ◌-◌, ◌≡◌, ◌<◌, ◌≤◌}
 use Rattle.tierra_model.specs.Setups.{SetupFields}
-use Rattle.turn_lock.specs.Seats.{LockFields, SeatFields, own_of}
+use Rattle.turn_lock.specs.Seat.{LockFields, SeatFields, own_of}
 use Rattle.soup_watch.specs.declared.sight.Sight.{Sight}
 use Rattle.soup_watch.specs.declared.watching.Watched.{Watched}
 use Rattle.soup_watch.specs.Seeing.{last_of}

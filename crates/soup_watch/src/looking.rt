@@ -2,8 +2,8 @@
 
 ghost use Rattle.std.specs.Prelude.{◌≡◌, ◌+◌, ◌<◌, ◌≤◌, ◌^◌, ℕ, IfOk};
 ghost use Rattle.tierra_model.specs.Serial.{serial};
-ghost use Rattle.turn_lock.specs.Seats.{own_of};
-ghost use Rattle.commit_book.specs.Books.{world_of};
+ghost use Rattle.turn_lock.specs.Seat.{own_of};
+ghost use Rattle.commit_book.specs.Book.{world_of};
 ghost use Rattle.soup_watch.specs.Seeing.{sight_of};
 
 use crate::sight::{Sight, sight_of};

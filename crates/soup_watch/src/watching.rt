@@ -4,7 +4,7 @@ ghost use Rattle.std.specs.Prelude.{◌-◌, ◌≡◌, ◌+◌, ◌++◌, ◌<�
 ghost use Rattle.std.specs.Thread.{IsSync};
 ghost use Rattle.tierra_model.specs.declared.limits.TheConstants.{MOST_LOOKS, MOST_QUANTA, MOST_WORKERS};
 ghost use Rattle.tierra_model.specs.Serial.{serial};
-ghost use Rattle.commit_book.specs.Books.{world_of};
+ghost use Rattle.commit_book.specs.Book.{world_of};
 ghost use Rattle.commit_book.specs.Giving.{MayGive};
 ghost use Rattle.crew.specs.Works.{HasWorked, IsFirst, IsOther, IsThere};
 ghost use Rattle.report_text.specs.Report.{report};

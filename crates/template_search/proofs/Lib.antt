@@ -1,3 +1,4 @@
+pub mod Packing
 pub mod Passing
 pub mod Modulo
 pub mod Comparing

@@ -9,14 +9,14 @@ use Rattle.template_search.specs.declared.opening.Opening.{Opening}
 use Rattle.template_search.specs.Openings.{Differs, IsOpening, complement_at, mask_at, packed}
 
 -- k bytes as a number, the first the lowest
-abbrev number : ℕ → (ℕ → ℕ) → ℕ
+abbrev pub number : ℕ → (ℕ → ℕ) → ℕ
 number zero f = 0
 number (suc k) f = number k (λ j. f (suc j)) * 2 ^ 8 + f 0
 
-packed-number : (f : ℕ → ℕ) → packed f ≡ number 8 f
+pub packed-number : (f : ℕ → ℕ) → packed f ≡ number 8 f
 packed-number f = omega arith
 
-number_same : (k : ℕ) (f g : ℕ → ℕ) → ((j : ℕ) → j < k → f j ≡ g j) → number k f ≡ number k g
+pub number_same : (k : ℕ) (f g : ℕ → ℕ) → ((j : ℕ) → j < k → f j ≡ g j) → number k f ≡ number k g
 number_same zero f g e = refl
 number_same (suc k) f g e =
     let rest = number_same k (λ j. f (suc j)) (λ j. g (suc j)) (λ j h. e (suc j) (omega arith)) in

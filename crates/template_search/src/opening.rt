@@ -25,9 +25,8 @@ impl Opening {
         ensures { IsOpening (take template.now.len template.now.cells) result }
     {
         let mask = mask_of(template.len);
-        let nops = word_at(&template.cells, 0);
         Opening {
-            cells: (nops ^ OTHER_NOPS) & mask,
+            cells: (template.word ^ OTHER_NOPS) & mask,
             mask,
         }
     }

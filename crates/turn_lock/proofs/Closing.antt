@@ -12,9 +12,9 @@ use Rattle.atomic_table.specs.Seated.{TableId}
 use Rattle.turn_lock.specs.declared.view.Summary.{Summary}
 use Rattle.turn_lock.specs.declared.view.View.{View}
 use Rattle.turn_lock.specs.declared.view.Stage.TheVariants.{Idle}
-use Rattle.turn_lock.specs.Summaries.{entries_by, HasGrown}
-use Rattle.turn_lock.specs.Seats.{SeatFields, own_of, own_total, SpeaksForAll}
-use Rattle.turn_lock.specs.Views.{own_at, IsActive, IsHolding}
+use Rattle.turn_lock.specs.Summary.{entries_by, HasGrown}
+use Rattle.turn_lock.specs.Seat.{SeatFields, own_of, own_total, SpeaksForAll}
+use Rattle.turn_lock.specs.View.{own_at, IsActive, IsHolding}
 use Rattle.turn_lock.specs.Rule.{NoneHolds, KeepsRule}
 use Rattle.turn_lock.specs.Mirrors.{seat_of}
 use Rattle.turn_lock.proofs.Places.{same_at}

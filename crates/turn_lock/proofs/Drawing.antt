@@ -11,7 +11,7 @@ use Rattle.turn_lock.specs.declared.view.Summary.{Summary}
 use Rattle.turn_lock.specs.declared.view.View.{View}
 use Rattle.turn_lock.specs.declared.view.Stage.{Stage}
 use Rattle.turn_lock.specs.declared.view.Stage.TheVariants.{Idle}
-use Rattle.turn_lock.specs.Views.{most_tickets, left_of, ticket_count, HasTicket, IsActive, IsHolding, after_draw}
+use Rattle.turn_lock.specs.View.{most_tickets, left_of, ticket_count, HasTicket, IsActive, IsHolding, after_draw}
 use Rattle.turn_lock.specs.Rule.{SeatFits, KeepsRule}
 use Rattle.turn_lock.specs.Steps.{TableSeat, DrawsTicket}
 use Rattle.turn_lock.proofs.Places.{put, put_here, put_else, inside, sum_at}

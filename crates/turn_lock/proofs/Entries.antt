@@ -4,9 +4,9 @@ use Rattle.std.proofs.lemmas.Option.{none-some}
 use Rattle.atomic_table.specs.Seated.{TableId}
 use Rattle.turn_lock.specs.declared.view.Summary.{Summary}
 use Rattle.turn_lock.specs.declared.view.View.{View}
-use Rattle.turn_lock.specs.Summaries.{entries_by, HasGrown}
-use Rattle.turn_lock.specs.Seats.{own_of}
-use Rattle.turn_lock.specs.Views.{own_at}
+use Rattle.turn_lock.specs.Summary.{entries_by, HasGrown}
+use Rattle.turn_lock.specs.Seat.{own_of}
+use Rattle.turn_lock.specs.View.{own_at}
 use Rattle.turn_lock.specs.Mirrors.{seat_of}
 use Rattle.turn_lock.proofs.OwnCounts.{owned_inside}
 

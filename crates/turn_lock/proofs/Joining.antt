@@ -10,7 +10,7 @@ use Rattle.turn_lock.specs.declared.view.Summary.{Summary}
 use Rattle.turn_lock.specs.declared.view.View.{View}
 use Rattle.turn_lock.specs.declared.view.Stage.{Stage}
 use Rattle.turn_lock.specs.declared.view.Stage.TheVariants.{Idle}
-use Rattle.turn_lock.specs.Views.{own_at, left_of, ticket_count, HasTicket, IsActive, IsHolding, after_join, spent}
+use Rattle.turn_lock.specs.View.{own_at, left_of, ticket_count, HasTicket, IsActive, IsHolding, after_join, spent}
 use Rattle.turn_lock.specs.Rule.{SeatFits, Speaks, KeepsRule}
 use Rattle.turn_lock.proofs.Places.{put, put_here, put_else, inside, same_at, sum_at}
 use Rattle.turn_lock.proofs.OwnCounts.{or_from, or_left, or_same, length-merged, merged_from, merged_left, merged_right, count-merged}

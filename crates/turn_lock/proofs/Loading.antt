@@ -12,7 +12,7 @@ use Rattle.turn_lock.specs.declared.view.Summary.{Summary}
 use Rattle.turn_lock.specs.declared.view.View.{View}
 use Rattle.turn_lock.specs.declared.view.Stage.{Stage}
 use Rattle.turn_lock.specs.declared.view.Stage.TheVariants.{Spent, Idle, Waiting, Called, Holding}
-use Rattle.turn_lock.specs.Views.{ticket_count, ticket_of, counts_read, HasTicket, WaitsFor, IsActive, IsHolding, at_stage, after_call}
+use Rattle.turn_lock.specs.View.{ticket_count, ticket_of, counts_read, HasTicket, WaitsFor, IsActive, IsHolding, at_stage, after_call}
 use Rattle.turn_lock.specs.Rule.{StageFits, KeepsRule}
 use Rattle.turn_lock.specs.Steps.{TableSeat, LoadsServing, LoadsCount}
 use Rattle.turn_lock.proofs.Restaging.{restages}

@@ -4,7 +4,7 @@ use Rattle.std.specs.Option.{option_or}
 use mathlib.Core.Logic.{dite}
 use native.Mathlib.Decide.{ℕ_discrete}
 use Rattle.std.proofs.lemmas.List.{ext_get_or}
-use Rattle.turn_lock.specs.Views.{merged}
+use Rattle.turn_lock.specs.View.{merged}
 use Rattle.turn_lock.proofs.OwnCounts.{length-merged, get_or-merged}
 
 -- the places below i have taken in what the other has

@@ -4,8 +4,8 @@ use Rattle.std.specs.Prelude.{max}
 use Rattle.std.specs.Option.{option_or}
 use Rattle.atomic_table.specs.Seated.{TableId}
 use Rattle.turn_lock.specs.declared.view.View.{View}
-use Rattle.turn_lock.specs.Seats.{SeatFields, own_of, only, new_seat}
-use Rattle.turn_lock.specs.Views.{merged, last_of, after_split, new_view, after_join}
+use Rattle.turn_lock.specs.Seat.{SeatFields, own_of, only, new_seat}
+use Rattle.turn_lock.specs.View.{merged, last_of, after_split, new_view, after_join}
 use Rattle.turn_lock.specs.Mirrors.{view_of, seat_of, MirrorsSeat}
 use Rattle.turn_lock.proofs.OwnCounts.{blank, length-merged, get_or-merged, merged_left}
 

@@ -4,7 +4,7 @@ use Rattle.atomic_table.specs.Table.{opening}
 use Rattle.std.proofs.lemmas.Option.{none-some, same_Some}
 use Rattle.turn_lock.specs.declared.view.Summary.{Summary}
 use Rattle.turn_lock.specs.declared.view.View.{View}
-use Rattle.turn_lock.specs.Views.{own_at, first_view}
+use Rattle.turn_lock.specs.View.{own_at, first_view}
 use Rattle.turn_lock.specs.Rule.{SeatFits, KeepsRule}
 use Rattle.turn_lock.proofs.Places.{one_at}
 use Rattle.turn_lock.proofs.OwnCounts.{blank, zeros, blank_none, zeros_zero}

@@ -4,8 +4,8 @@ use Rattle.std.specs.Prelude.{sum, sum_by, count_by, is_some, unwrap_or, replica
 use Rattle.std.specs.Option.{option_or}
 use Rattle.std.proofs.lemmas.List.Sums.{sum_by-set, sum_by-cons}
 use Rattle.std.proofs.lemmas.Option.{none-some}
-use Rattle.turn_lock.specs.Seats.{only}
-use Rattle.turn_lock.specs.Views.{merged}
+use Rattle.turn_lock.specs.Seat.{only}
+use Rattle.turn_lock.specs.View.{merged}
 
 pub value_of : (o : Option ℕ) → IsSome o → (n : ℕ) × (o ≡ Some n)
 value_of None e = cc

@@ -6,8 +6,8 @@ use Rattle.turn_lock.specs.declared.view.Summary.{Summary}
 use Rattle.turn_lock.specs.declared.view.View.{View}
 use Rattle.turn_lock.specs.declared.view.Stage.{Stage}
 use Rattle.turn_lock.specs.declared.view.Stage.TheVariants.{Holding}
-use Rattle.turn_lock.specs.Summaries.{HasGrown}
-use Rattle.turn_lock.specs.Views.{left_of, ticket_count, HasTicket, IsActive, after_pass}
+use Rattle.turn_lock.specs.Summary.{HasGrown}
+use Rattle.turn_lock.specs.View.{left_of, ticket_count, HasTicket, IsActive, after_pass}
 use Rattle.turn_lock.specs.Rule.{StageFits, SeatFits, KeepsRule}
 use Rattle.turn_lock.specs.Steps.{TableSeat, PassesOn}
 use Rattle.turn_lock.proofs.Places.{sum_at, set_one}

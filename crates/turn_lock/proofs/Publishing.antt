@@ -12,7 +12,7 @@ use Rattle.turn_lock.specs.declared.view.Summary.{Summary}
 use Rattle.turn_lock.specs.declared.view.View.{View}
 use Rattle.turn_lock.specs.declared.view.Stage.{Stage}
 use Rattle.turn_lock.specs.declared.view.Stage.TheVariants.{Holding}
-use Rattle.turn_lock.specs.Views.{left_of, ticket_count, ticket_of, counts_read, HasTicket, IsActive, after_publish}
+use Rattle.turn_lock.specs.View.{left_of, ticket_count, ticket_of, counts_read, HasTicket, IsActive, after_publish}
 use Rattle.turn_lock.specs.Rule.{StageFits, SeatFits, KeepsRule}
 use Rattle.turn_lock.specs.Steps.{TableSeat, Publishes}
 use Rattle.turn_lock.proofs.Places.{inside, sum_at, sum_set}

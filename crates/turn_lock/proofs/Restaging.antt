@@ -7,8 +7,8 @@ use Rattle.atomic_table.specs.Table.{State}
 use Rattle.turn_lock.specs.declared.view.Summary.{Summary}
 use Rattle.turn_lock.specs.declared.view.View.{View}
 use Rattle.turn_lock.specs.declared.view.Stage.{Stage}
-use Rattle.turn_lock.specs.Summaries.{HasGrown}
-use Rattle.turn_lock.specs.Views.{left_of, ticket_count, HasTicket, IsActive, IsHolding, at_stage}
+use Rattle.turn_lock.specs.Summary.{HasGrown}
+use Rattle.turn_lock.specs.View.{left_of, ticket_count, HasTicket, IsActive, IsHolding, at_stage}
 use Rattle.turn_lock.specs.Rule.{StageFits, SeatFits, NoneHolds, KeepsRule}
 use Rattle.turn_lock.proofs.Places.{sum_at}
 use Rattle.turn_lock.proofs.SeatsStay.{queue_stays, none_held, speaks_stays, each_seat_stays}

@@ -9,9 +9,9 @@ use Rattle.atomic_table.specs.Table.{rest, step, Allows}
 use Rattle.atomic_table.specs.Seated.{TableId}
 use Rattle.turn_lock.specs.declared.view.Summary.{Summary}
 use Rattle.turn_lock.specs.declared.view.View.{View}
-use Rattle.turn_lock.specs.Summaries.{Commits, HasGrown}
-use Rattle.turn_lock.specs.Seats.{SeatFields, TurnFields, own_of}
-use Rattle.turn_lock.specs.Views.{ticket_of, counts_read, grown_counts, after_publish, after_pass}
+use Rattle.turn_lock.specs.Summary.{Commits, HasGrown}
+use Rattle.turn_lock.specs.Seat.{SeatFields, TurnFields, own_of}
+use Rattle.turn_lock.specs.View.{ticket_of, counts_read, grown_counts, after_publish, after_pass}
 use Rattle.turn_lock.specs.Rule.{KeepsRule}
 use Rattle.turn_lock.specs.Steps.{TableSeat, Publishes, PassesOn}
 use Rattle.turn_lock.specs.Mirrors.{seat_of, MirrorsSeat, MirrorsTurn}

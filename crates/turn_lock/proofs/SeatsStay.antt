@@ -6,7 +6,7 @@ use native.Mathlib.Decide.{ℕ_discrete}
 use lib.ListN.{get_elem?}
 use Rattle.atomic_table.proofs.Lists.{at_set, set_here, set_else}
 use Rattle.turn_lock.specs.declared.view.View.{View}
-use Rattle.turn_lock.specs.Views.{own_at, HasTicket, IsActive, IsHolding}
+use Rattle.turn_lock.specs.View.{own_at, HasTicket, IsActive, IsHolding}
 use Rattle.turn_lock.specs.Rule.{Speaks, NoneHolds}
 use Rattle.turn_lock.proofs.Places.{inside, same_at}
 

@@ -4,7 +4,7 @@ use Rattle.std.specs.Prelude.{IsSome, IsSomeAnd, is_some}
 use Rattle.std.specs.Option.{option_or}
 use mathlib.Core.Logic.{dite}
 use native.Mathlib.Decide.{ℕ_discrete}
-use Rattle.turn_lock.specs.Seats.{SeatFields, own_of, SpeaksForAll}
+use Rattle.turn_lock.specs.Seat.{SeatFields, own_of, SpeaksForAll}
 use Rattle.turn_lock.proofs.OwnCounts.{value_of, value_where, or_left, or_right}
 
 -- after a turn

@@ -11,8 +11,8 @@ use Rattle.atomic_table.specs.Table.{Splits}
 use Rattle.atomic_table.proofs.Lists.{at_longer, at_last}
 use Rattle.turn_lock.specs.declared.view.Summary.{Summary}
 use Rattle.turn_lock.specs.declared.view.View.{View}
-use Rattle.turn_lock.specs.Seats.{only}
-use Rattle.turn_lock.specs.Views.{own_at, left_of, IsActive, last_of, after_split, new_view}
+use Rattle.turn_lock.specs.Seat.{only}
+use Rattle.turn_lock.specs.View.{own_at, left_of, IsActive, last_of, after_split, new_view}
 use Rattle.turn_lock.specs.Rule.{SeatFits, Speaks, KeepsRule}
 use Rattle.turn_lock.proofs.Places.{put, put_here, put_else, sum_at, snoc_at}
 use Rattle.turn_lock.proofs.OwnCounts.{has, blank, blank_none, only_one}

@@ -2,7 +2,7 @@
 use Rattle.std.proofs.Common.{◌≡◌, ◌≢◌, ℕ, ◌+◌, List, sym, ap, ◌∙◌, arith}
 use Rattle.turn_lock.specs.declared.view.Stage.{Stage}
 use Rattle.turn_lock.specs.declared.view.Stage.TheVariants.{Spent, Idle, Waiting, Called, Holding}
-use Rattle.turn_lock.specs.Views.{IsActive, IsHolding}
+use Rattle.turn_lock.specs.View.{IsActive, IsHolding}
 use Rattle.turn_lock.specs.Rule.{StageFits}
 use Rattle.turn_lock.proofs.Places.{put, put_else}
 

@@ -10,8 +10,8 @@ use Rattle.turn_lock.specs.declared.view.Summary.{Summary}
 use Rattle.turn_lock.specs.declared.view.View.{View}
 use Rattle.turn_lock.specs.declared.view.Stage.{Stage}
 use Rattle.turn_lock.specs.declared.view.Stage.TheVariants.{Called, Holding}
-use Rattle.turn_lock.specs.Summaries.{HasGrown}
-use Rattle.turn_lock.specs.Views.{ticket_count, ticket_of, counts_read, HasTicket, IsActive, IsHolding, at_stage}
+use Rattle.turn_lock.specs.Summary.{HasGrown}
+use Rattle.turn_lock.specs.View.{ticket_count, ticket_of, counts_read, HasTicket, IsActive, IsHolding, at_stage}
 use Rattle.turn_lock.specs.Rule.{StageFits, NoneHolds, KeepsRule}
 use Rattle.turn_lock.specs.Steps.{TableSeat, TakesSlot}
 use Rattle.turn_lock.proofs.Places.{inside, same_at}

@@ -6,9 +6,9 @@ use Rattle.atomic_table.specs.Seated.{TableId}
 use Rattle.turn_lock.specs.declared.view.Summary.{Summary}
 use Rattle.turn_lock.specs.declared.view.View.{View}
 use Rattle.turn_lock.specs.declared.view.Stage.TheVariants.{Called, Holding}
-use Rattle.turn_lock.specs.Summaries.{entries_by, HasGrown}
-use Rattle.turn_lock.specs.Seats.{SeatFields, own_of}
-use Rattle.turn_lock.specs.Views.{most_tickets, own_at, counts_read, at_stage, after_draw, after_take}
+use Rattle.turn_lock.specs.Summary.{entries_by, HasGrown}
+use Rattle.turn_lock.specs.Seat.{SeatFields, own_of}
+use Rattle.turn_lock.specs.View.{most_tickets, own_at, counts_read, at_stage, after_draw, after_take}
 use Rattle.turn_lock.specs.Steps.{TableSeat, SlotTaken}
 use Rattle.turn_lock.specs.Mirrors.{view_of, seat_of, MirrorsSeat, MirrorsTurn}
 use Rattle.turn_lock.proofs.Entries.{entries_own}

@@ -1,6 +1,6 @@
-pub mod Summaries
-pub mod Seats
-pub mod Views
+pub mod Summary
+pub mod Seat
+pub mod View
 pub mod Rule
 pub mod Steps
 pub mod Mirrors

@@ -4,9 +4,9 @@ use Rattle.atomic_table.specs.Seated.{TableId}
 use Rattle.turn_lock.specs.declared.view.Summary.{Summary}
 use Rattle.turn_lock.specs.declared.view.View.{View}
 use Rattle.turn_lock.specs.declared.view.Stage.TheVariants.{Idle, Holding}
-use Rattle.turn_lock.specs.Summaries.{HasGrown}
-use Rattle.turn_lock.specs.Seats.{SeatFields}
-use Rattle.turn_lock.specs.Views.{most_tickets, own_at, ticket_of, counts_read, spent}
+use Rattle.turn_lock.specs.Summary.{HasGrown}
+use Rattle.turn_lock.specs.Seat.{SeatFields}
+use Rattle.turn_lock.specs.View.{most_tickets, own_at, ticket_of, counts_read, spent}
 use Rattle.turn_lock.specs.Steps.{TableSeat}
 
 abbrev pub view_of : List View → View

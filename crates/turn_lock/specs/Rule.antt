@@ -7,8 +7,8 @@ use Rattle.turn_lock.specs.declared.view.Summary.{Summary}
 use Rattle.turn_lock.specs.declared.view.View.{View}
 use Rattle.turn_lock.specs.declared.view.Stage.{Stage}
 use Rattle.turn_lock.specs.declared.view.Stage.TheVariants.{Spent, Idle, Waiting, Called, Holding}
-use Rattle.turn_lock.specs.Summaries.{HasGrown}
-use Rattle.turn_lock.specs.Views.{most_tickets, own_at, left_of, ticket_count, HasTicket, IsActive, IsHolding}
+use Rattle.turn_lock.specs.Summary.{HasGrown}
+use Rattle.turn_lock.specs.View.{most_tickets, own_at, left_of, ticket_count, HasTicket, IsActive, IsHolding}
 
 -- What a seat's stage says of the words: a ticket that it holds is one of those from serving to ticket - 1, and the seat is its
 -- holder; it is called, has read counts or holds the slot only where its ticket is the one served, and these counts are the

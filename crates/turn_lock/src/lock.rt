@@ -3,9 +3,9 @@
 ghost use Rattle.std.specs.Prelude.{◌≡◌, ℕ, ◌+◌, ◌-◌, ◌^◌, ◌<◌, ◌≤◌, ◌≢◌, List, [], ◌∷◌, length, max, Some, None, IsSome, IsSomeAnd, IfNone, IfOk, IfErr, IfSome, OnOk, OnErr};
 ghost use Rattle.std.specs.Option.{option_or};
 ghost use Rattle.turn_lock.specs.declared.view.Stage.TheVariants.{Waiting, Called};
-ghost use Rattle.turn_lock.specs.Summaries.{summary_of, entries_by, Commits};
-ghost use Rattle.turn_lock.specs.Seats.{own_of, own_total, only, first_seat, new_seat, SpeaksForAll};
-ghost use Rattle.turn_lock.specs.Views.{at_stage, merged};
+ghost use Rattle.turn_lock.specs.Summary.{summary_of, entries_by, Commits};
+ghost use Rattle.turn_lock.specs.Seat.{own_of, own_total, only, first_seat, new_seat, SpeaksForAll};
+ghost use Rattle.turn_lock.specs.View.{at_stage, merged};
 
 use crate::kept::Kept;
 use crate::seat::{Seat, Turn};
@@ -23,13 +23,13 @@ use std::sync::atomic::{AtomicU64, Ordering};
 use std::thread::yield_now;
 use tierra_model::OutOfMemory;
 
-/// So often a waiter looks whether it is served, one look at once after another.
+/// How many times a waiter looks, without a pause, whether it is served.
 const LOOKS: u32 = 200;
 
-/// So often more it looks where few are before it, and lets other threads run between two looks. Then it parks.
+/// How many times more it looks where few are ahead of it, and lets other threads run between two looks. Then it parks.
 const MORE_LOOKS: u32 = 500;
 
-/// How many are few.
+/// How many ahead of it count as few.
 const FEW: u64 = 3;
 
 // A seat, as the table knows it.
@@ -52,8 +52,8 @@ pub struct TurnLock<T: Kept> {
 
 impl<T: Kept> Model for TurnLock<T> {
     ghost use Rattle.std.specs.Prelude.{◌≡◌};
-    ghost use Rattle.turn_lock.specs.Summaries.{summary_of};
-    ghost use Rattle.turn_lock.specs.Seats.{LockFields};
+    ghost use Rattle.turn_lock.specs.Summary.{summary_of};
+    ghost use Rattle.turn_lock.specs.Seat.{LockFields};
 
     ghost Value = { LockFields };
 

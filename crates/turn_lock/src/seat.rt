@@ -1,7 +1,7 @@
 //! Seats, and the turns that they take.
 
 ghost use Rattle.std.specs.Prelude.{◌≡◌, ◌≤◌};
-ghost use Rattle.turn_lock.specs.Seats.{own_of};
+ghost use Rattle.turn_lock.specs.Seat.{own_of};
 
 use crate::kept::Kept;
 use crate::view::View;
@@ -20,7 +20,7 @@ pub struct Seat {
 }
 
 impl Model for Seat {
-    ghost use Rattle.turn_lock.specs.Seats.{SeatFields};
+    ghost use Rattle.turn_lock.specs.Seat.{SeatFields};
     ghost use Rattle.turn_lock.specs.Mirrors.{view_of, seat_of, MirrorsSeat};
 
     ghost Value = { SeatFields };
@@ -78,8 +78,8 @@ pub struct Turn<T: Kept> {
 }
 
 impl<T: Kept> Model for Turn<T> {
-    ghost use Rattle.turn_lock.specs.Summaries.{summary_of};
-    ghost use Rattle.turn_lock.specs.Seats.{TurnFields};
+    ghost use Rattle.turn_lock.specs.Summary.{summary_of};
+    ghost use Rattle.turn_lock.specs.Seat.{TurnFields};
     ghost use Rattle.turn_lock.specs.Mirrors.{seat_of, MirrorsTurn};
 
     ghost Value = { TurnFields };

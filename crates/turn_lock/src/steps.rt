@@ -1,7 +1,7 @@
 //! The kinds of step on the table, and what each tells the seat that makes it.
 
-ghost use Rattle.turn_lock.specs.Summaries.{summary_of};
-ghost use Rattle.turn_lock.specs.Views.{after_split, new_view, after_join, spent};
+ghost use Rattle.turn_lock.specs.Summary.{summary_of};
+ghost use Rattle.turn_lock.specs.View.{after_split, new_view, after_join, spent};
 ghost use Rattle.turn_lock.specs.Steps.{DrawsTicket, LoadsServing, LoadsCount, TakesSlot, Publishes, PassesOn};
 
 use crate::kept::Kept;

@@ -1,8 +1,8 @@
 //! Turns at a lock over a tally.
 
 ghost use Rattle.std.specs.Prelude.{◌≡◌, ℕ, ◌+◌, ◌^◌, ◌<◌, ◌≤◌, All, Some, IsSome, IfOk, OnOk};
-ghost use Rattle.turn_lock.specs.Summaries.{summary_of, Commits};
-ghost use Rattle.turn_lock.specs.Seats.{own_of, first_seat};
+ghost use Rattle.turn_lock.specs.Summary.{summary_of, Commits};
+ghost use Rattle.turn_lock.specs.Seat.{own_of, first_seat};
 
 use crate::{Kept, Seat, TurnLock};
 use std::alloc::Global;

@@ -52,8 +52,8 @@ pub struct View {
 pub struct LockRule;
 
 impl<T: Kept> TableRule<Option<T>, View, Snapshot<T>> for LockRule {
-    ghost use Rattle.turn_lock.specs.Summaries.{summary_of};
-    ghost use Rattle.turn_lock.specs.Views.{first_view};
+    ghost use Rattle.turn_lock.specs.Summary.{summary_of};
+    ghost use Rattle.turn_lock.specs.View.{first_view};
     ghost use Rattle.turn_lock.specs.Rule.{KeepsRule};
 
     ghost holds = { λ key. KeepsRule (summary_of T.setup T.committed T.entries)

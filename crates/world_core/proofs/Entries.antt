@@ -9,7 +9,7 @@ use Rattle.tierra_model.specs.Queue.{error_move, good_move}
 use Rattle.tierra_model.proofs.Living.{find-last, find-without}
 use Rattle.tierra_model.proofs.Owners.{is_here-times}
 use Rattle.tierra_model.proofs.Yards.{map-cong-in, map-error_move, map-filter-cong, map-good_move, one_of-with_other, one_of-with_same}
-use Rattle.reaper_queue.specs.Queue.{errors_of, is_of, with_error, ids_of as entry_ids, errors_in}
+use Rattle.reaper_queue.specs.Reaper.{errors_of, is_of, with_error, ids_of as entry_ids, errors_in}
 use Rattle.world_core.specs.Population.{entries_of}
 
 -- who has which errors, as a list of birth numbers is gone through

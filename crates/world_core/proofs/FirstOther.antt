@@ -6,7 +6,7 @@ use Rattle.tierra_model.specs.declared.parameters.Settings.{Settings}
 use Rattle.tierra_model.specs.Counting.{times_in}
 use Rattle.tierra_model.specs.Queue.{place_of_first_other}
 use Rattle.tierra_model.specs.Room.{filled, first_fit, room_for}
-use Rattle.reaper_queue.specs.Queue.{ids_of}
+use Rattle.reaper_queue.specs.Reaper.{ids_of}
 
 pub first_id : (entries : List (ℕ × ℕ)) (x : ℕ × ℕ) → slice_get entries 0 ≡ Some x → slice_index (ids_of entries) 0 ≡ x.0
 first_id [] x h = cc

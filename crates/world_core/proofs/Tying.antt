@@ -12,7 +12,7 @@ use Rattle.tierra_model.specs.Room.{holds}
 use Rattle.tierra_model.specs.Sound.{owners, owners_of}
 use Rattle.tierra_model.proofs.Owners.{ids_of-append, is_here-times, sum_of-append, sum_of-with, sum_of-without, times_in-append}
 use Rattle.tierra_model.proofs.Living.{find-append}
-use Rattle.block_alloc.specs.Space.{Space}
+use Rattle.block_alloc.specs.Blocks.{BlocksFields}
 use Rattle.census.specs.declared.Census.{Census}
 use Rattle.census.specs.Census.{living_of}
 use Rattle.world_core.specs.Running.{number_with}
@@ -49,7 +49,7 @@ number-puts living b a g h =
 
 -- ---- the record of a creature
 
-pub tied-put : (n : ℕ) (living : List Creature) (blocks : Space) (census : Census) (b a : Creature) → Puts living b a → a.daughter ≡ b.daughter
+pub tied-put : (n : ℕ) (living : List Creature) (blocks : BlocksFields) (census : Census) (b a : Creature) → Puts living b a → a.daughter ≡ b.daughter
     → AreTied n living blocks census → AreTied n (with_record a living) blocks census
 tied-put n living blocks census b a h d t =
     record {
@@ -60,7 +60,7 @@ tied-put n living blocks census b a h d t =
     }
 
 -- it takes a daughter block
-pub tied-taken : (n : ℕ) (living : List Creature) (blocks after : Space) (census : Census) (b a : Creature) (x : Block) → Puts living b a
+pub tied-taken : (n : ℕ) (living : List Creature) (blocks after : BlocksFields) (census : Census) (b a : Creature) (x : Block) → Puts living b a
     → b.daughter ≡ None → a.daughter ≡ Some x → after.size ≡ blocks.size
     → after.free ≡ runs_of blocks.size (λ p. is_in_some blocks.free p && not (is_in x p))
     → AreTied n living blocks census → AreTied n (with_record a living) after census
@@ -74,7 +74,7 @@ tied-taken n living blocks after census b a x h none some size free t =
     }
 
 -- it gives its daughter block up
-pub tied-given_up : (n : ℕ) (living : List Creature) (blocks after : Space) (census : Census) (b a : Creature) (x : Block) → Puts living b a
+pub tied-given_up : (n : ℕ) (living : List Creature) (blocks after : BlocksFields) (census : Census) (b a : Creature) (x : Block) → Puts living b a
     → b.daughter ≡ Some x → a.daughter ≡ None → ((p : ℕ) → owners living p ≤ 1) → after.size ≡ blocks.size
     → after.free ≡ runs_of blocks.size (λ p. is_in_some blocks.free p || is_in x p)
     → AreTied n living blocks census → AreTied n (with_record a living) after census
@@ -89,7 +89,7 @@ tied-given_up n living blocks after census b a x h some none apart size free t =
 
 -- ---- a death
 
-pub tied-died : (n : ℕ) (living : List Creature) (blocks after : Space) (census counts : Census) (id : ℕ) (c : Creature)
+pub tied-died : (n : ℕ) (living : List Creature) (blocks after : BlocksFields) (census counts : Census) (id : ℕ) (c : Creature)
     → 0 < times_in (ids_of living) id → ((k : ℕ) → times_in (ids_of living) k ≤ 1) → one_of living id ≡ c → ((p : ℕ) → owners living p ≤ 1)
     → after.size ≡ blocks.size → after.free ≡ runs_of blocks.size (λ p. is_in_some blocks.free p || holds c p)
     → ((g : ℕ) → living_of census g ≡ living_of counts g + one_if (c.genotype == g))
@@ -132,7 +132,7 @@ few_counted (x ∷ xs) g = omega (arith, few_counted xs g, most (x.genotype == g
 
 -- ---- a newcomer, whose block was taken before or is taken now
 
-pub tied-entered : (n : ℕ) (living : List Creature) (blocks after : Space) (census counts : Census) (nb : Creature)
+pub tied-entered : (n : ℕ) (living : List Creature) (blocks after : BlocksFields) (census counts : Census) (nb : Creature)
     → nb.daughter ≡ None → after.size ≡ blocks.size → after.free ≡ runs_of blocks.size (λ p. is_in_some blocks.free p && not (is_in nb.own p))
     → ((g : ℕ) → living_of counts g ≡ living_of census g + one_if (nb.genotype == g))
     → AreTied n living blocks census → AreTied n (living ++ nb ∷ []) after counts
@@ -145,7 +145,7 @@ tied-entered n living blocks after census counts nb none size free more t =
     }
 
 -- a mother's daughter block becomes the newborn's own
-pub tied-born : (n : ℕ) (living : List Creature) (blocks : Space) (census counts : Census) (b a nb : Creature) (x : Block)
+pub tied-born : (n : ℕ) (living : List Creature) (blocks : BlocksFields) (census counts : Census) (b a nb : Creature) (x : Block)
     → Puts (living ++ nb ∷ []) b a → b.daughter ≡ Some x → a.daughter ≡ None → nb.own ≡ x → nb.daughter ≡ None
     → ((g : ℕ) → living_of counts g ≡ living_of census g + one_if (nb.genotype == g))
     → AreTied n living blocks census → AreTied n (with_record a (living ++ nb ∷ [])) blocks counts

@@ -7,7 +7,7 @@ use Rattle.tierra_model.specs.Ranges.{IsCode}
 use Rattle.tierra_model.specs.Living.{ids_of}
 use Rattle.tierra_model.specs.World.{World, first_of}
 use Rattle.tierra_model.specs.Sound.{IsPlaced, owners}
-use Rattle.soup_cells.specs.Cells.{is_ready}
+use Rattle.soup_cells.specs.Soup.{is_ready}
 
 -- what contracts see: the world, the soup's own pages, how many births need no memory, and how many blocks can be taken or
 -- given back without memory

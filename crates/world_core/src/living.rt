@@ -1,6 +1,6 @@
 //! The living, in the order of their birth numbers.
 
-ghost use Rattle.std.specs.Prelude.{◌≡◌, ◌==◌, ◌+◌, ◌<◌, ◌≤◌, ℕ, [], ◌∷◌, ◌++◌, All, IfNone, IfSome, OnErr, OnOk, find, length, option_copied};
+ghost use Rattle.std.specs.Prelude.{◌≡◌, ◌==◌, ◌+◌, ◌<◌, ◌≤◌, ℕ, [], ◌∷◌, ◌++◌, All, IfNone, IfSome, OnErr, OnOk, find, length, option_copied, true};
 ghost use Rattle.std.specs.List.{AllWithin, HoldsAt};
 ghost use Rattle.std.specs.List.Sorted.{IsNonDecreasingBy};
 ghost use Rattle.std.specs.VecDeque.{deque_len, deque_capacity};
@@ -16,9 +16,6 @@ use std::alloc::Global;
 use std::collections::VecDeque;
 use std::marker::Model;
 use tierra_model::{Creature, OutOfMemory};
-
-// So many places are looked at before a search. Deaths of later-born creatures move a record by less than was counted.
-const NEAR: usize = 12;
 
 /// The records of the living. A creature is found by its birth number, where it was seen last, or else in steps that
 /// grow with the logarithm of how many live.
@@ -110,7 +107,7 @@ impl Living {
         ensures creatures { self.new.creatures ≡ self.old.creatures ++ newborn ∷ [] }
         ensures room { self.old.spare ≡ self.new.spare + 1 }
     {
-        self.places.note(newborn.id, self.creatures.len());
+        self.places.note_birth(newborn.id);
         self.creatures.push_back_reserved(newborn);
     }
 
@@ -123,37 +120,48 @@ impl Living {
         match place_of(&self.creatures, &self.places, id) {
             Some(place) => {
                 self.creatures.remove(place);
-                self.places.note_leaving();
+                self.places.note_leaving(place);
             }
             None => unreachable!(),
         }
     }
 }
 
-// Where the creature stands, if it does.
+// Where the creature stands, if it does: mostly where it was seen last.
+#[inline]
 fn place_of(creatures: &VecDeque<Creature>, places: &Places, id: u64) -> Option<usize>
     requires { Ordered 1 (ids_of creatures.now.items) }
     ensures some { IfSome result (λ place. HoldsAt (λ c. c.id ≡ id) creatures.now.items place
         × (place < length creatures.now.items)) }
     ensures none { IfNone result (times_in (ids_of creatures.now.items) id ≡ 0) }
 {
-    match place_near(creatures, places.place(id), id) {
-        Some(place) => Some(place),
-        None => search(creatures, id),
+    let last = places.last(id);
+    if stands_at(creatures, last, id) {
+        return Some(last);
+    }
+    place_after_moves(creatures, places, id)
+}
+
+// The same of a creature whose record may have moved.
+#[inline(never)]
+fn place_after_moves(creatures: &VecDeque<Creature>, places: &Places, id: u64) -> Option<usize>
+    requires { Ordered 1 (ids_of creatures.now.items) }
+    ensures some { IfSome result (λ place. HoldsAt (λ c. c.id ≡ id) creatures.now.items place
+        × (place < length creatures.now.items)) }
+    ensures none { IfNone result (times_in (ids_of creatures.now.items) id ≡ 0) }
+{
+    match places.near(id) {
+        Some(near) if stands_at(creatures, near, id) => Some(near),
+        _ => search(creatures, id),
     }
 }
 
-// Where the creature stands, if that is one of the few places from the first on.
-fn place_near(creatures: &VecDeque<Creature>, first: usize, id: u64) -> Option<usize>
-    ensures { IfSome result (λ place. HoldsAt (λ c. c.id ≡ id) creatures.now.items place
-        × (place < length creatures.now.items)) }
+// Whether the creature stands at the place.
+fn stands_at(creatures: &VecDeque<Creature>, place: usize, id: u64) -> bool
+    ensures { result ≡ true → HoldsAt (λ c. c.id ≡ id) creatures.now.items place × (place < length creatures.now.items) }
 {
-    for place in first..first.saturating_add(NEAR).min(creatures.len()) {
-        if creatures[place].id == id {
-            return Some(place);
-        }
-    }
-    None
+    let inside = place < creatures.len();
+    inside && creatures[place].id == id
 }
 
 // Where the creature stands, if it does, by a search.

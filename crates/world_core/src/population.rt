@@ -6,7 +6,7 @@ ghost use Rattle.tierra_model.specs.Counting.{times_in};
 ghost use Rattle.tierra_model.specs.Living.{ids_of, one_of, with_record, without};
 ghost use Rattle.tierra_model.specs.Queue.{error_move, good_move, place_of_first_other, rotation};
 ghost use Rattle.tierra_model.specs.World.{first_of};
-ghost use Rattle.reaper_queue.specs.Queue.{ids_of as entry_ids};
+ghost use Rattle.reaper_queue.specs.Reaper.{ids_of as entry_ids};
 ghost use Rattle.world_state.specs.Restoring.{HasWords};
 ghost use Rattle.world_core.specs.Population.{entries_of};
 
@@ -27,7 +27,7 @@ pub(crate) struct Population {
 
 impl Model for Population {
     ghost use Rattle.std.specs.Prelude.{◌≡◌, min};
-    ghost use Rattle.reaper_queue.specs.Queue.{ids_of};
+    ghost use Rattle.reaper_queue.specs.Reaper.{ids_of};
     ghost use Rattle.world_core.specs.Population.{PopulationFields, entries_of};
 
     ghost Value = { PopulationFields };

@@ -3,7 +3,7 @@ use Rattle.bank_format.specs.Spelling.{spelling}
 use Rattle.file_journal.specs.Files.{ClosesAfter, IsBeforeOrAfter, with_record}
 use Rattle.file_journal.specs.Steps.{Becomes}
 use Rattle.file_journal.proofs.Times.{Becomes-given, IsDiskCall-weaker, at_file, on_ok, told_weaker}
-use Rattle.bank_journal.specs.Journal.{HasBeforeOrAfter, IsAtRest, gate_place}
+use Rattle.bank_journal.specs.Bank.{HasBeforeOrAfter, IsAtRest, gate_place}
 use Rattle.bank_journal.proofs.Appending.{before_or_after, rests_after}
 use Rattle.bank_journal.proofs.bank.write_group.Goals as goal
 

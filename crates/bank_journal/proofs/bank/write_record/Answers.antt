@@ -1,7 +1,7 @@
 use Rattle.std.proofs.Common.{sym, subst, ℕ}
 use Rattle.file_journal.specs.Files.{IsClosedAt}
 use Rattle.file_journal.proofs.Times.{each_file}
-use Rattle.bank_journal.specs.Journal.{IsAtRest}
+use Rattle.bank_journal.specs.Bank.{IsAtRest}
 use Rattle.bank_journal.proofs.Appending.{closed_at}
 use Rattle.bank_journal.proofs.bank.write_record.Goals as goal
 

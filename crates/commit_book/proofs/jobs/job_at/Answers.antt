@@ -4,7 +4,7 @@ use Rattle.std.specs.Prelude.{option_map, slice_get}
 use Rattle.tierra_model.specs.Living.{one_of}
 use Rattle.tierra_model.specs.Sound.{IsSound}
 use Rattle.tierra_model.specs.World.{World}
-use Rattle.quantum_run.specs.Jobs.{OfSoundWorld}
+use Rattle.quantum_run.specs.Job.{OfSoundWorld}
 use Rattle.commit_book.proofs.JobLemmas.{ahead-is_job, job-scene}
 use Rattle.commit_book.proofs.jobs.job_at.Goals as goal
 

@@ -1,5 +1,5 @@
 use Rattle.std.proofs.Common.{◌≡◌, ◌-◌, ◌≤◌}
-use Rattle.crew.specs.Hands.{IsUnhalted}
+use Rattle.crew.specs.Hand.{IsUnhalted}
 use Rattle.crew.proofs.alone.run_alone.Given as goal
 
 abbrev pub invariant-savings : goal.invariant-savings

@@ -1,5 +1,5 @@
 use Rattle.std.proofs.Common.{◌∙◌, ap, arith}
-use Rattle.commit_book.specs.Books.{BookFields}
+use Rattle.commit_book.specs.Book.{BookFields}
 use Rattle.crew.proofs.Later.{own-later}
 use Rattle.crew.proofs.alone.work_on.Goals as goal
 

@@ -3,7 +3,7 @@ use Rattle.std.proofs.lemmas.Result.{IfOk-weaker}
 use Rattle.tierra_model.specs.Groups.{GroupFields}
 use Rattle.tierra_model.specs.Setups.{IsSetup}
 use Rattle.tierra_model.proofs.BankIsGroups.{bank_is_groups}
-use Rattle.crew.specs.Hands.{AreNext, run_bank}
+use Rattle.crew.specs.Hand.{AreNext, run_bank}
 use Rattle.crew.proofs.Banks.{are_next}
 use Rattle.crew.proofs.handing.new_groups.Goals as goal
 use Rattle.crew.proofs.handing.new_groups.Goals.{After-groups_from}

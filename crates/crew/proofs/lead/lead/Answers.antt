@@ -1,6 +1,6 @@
 use Rattle.std.proofs.Common.{refl, subst, ℕ, IfSome}
 use Rattle.tierra_model.specs.Setups.{SetupFields}
-use Rattle.crew.specs.Hands.{AreNext}
+use Rattle.crew.specs.Hand.{AreNext}
 use Rattle.crew.proofs.lead.lead.Goals as goal
 
 pub loop-init : goal.loop-init

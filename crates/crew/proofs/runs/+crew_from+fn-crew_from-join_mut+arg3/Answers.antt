@@ -1,5 +1,5 @@
 use Rattle.std.proofs.Common.{rules, refl, sym, subst, arith, ◌+◌}
-use Rattle.turn_lock.specs.Seats.{SeatFields}
+use Rattle.turn_lock.specs.Seat.{SeatFields}
 use Rattle.crew.specs.Works.{IsFirst, IsOther, SpeaksFrom}
 use Rattle.crew.proofs.Speaking.{first_speaks, joined_speaks, that_one}
 use Rattle.crew.proofs.runs.+crew_from+fn-crew_from-join_mut+arg3.Goals as goal

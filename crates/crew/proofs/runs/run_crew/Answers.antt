@@ -1,8 +1,8 @@
 use Rattle.std.proofs.Common.{◌≡◌, ◌∙◌, sym, ap, subst, arith, ℕ, ◌≤◌, length, true}
 use Rattle.tierra_model.specs.Setups.{SetupFields}
 use Rattle.turn_lock.specs.declared.view.Summary.{Summary}
-use Rattle.crew.specs.Hands.{run_bank}
-use Rattle.crew.specs.Rans.{IfEnded, IfHalted}
+use Rattle.crew.specs.Hand.{run_bank}
+use Rattle.crew.specs.Ran.{IfEnded, IfHalted}
 use Rattle.crew.proofs.Banks.{earlier-within}
 use Rattle.crew.proofs.Speaking.{first_is}
 use Rattle.crew.proofs.runs.run_crew.Given.{Over}

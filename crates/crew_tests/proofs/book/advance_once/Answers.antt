@@ -1,6 +1,6 @@
 use Rattle.std.proofs.Common.{subst, sym}
 use Rattle.std.specs.Prelude.{IsSome}
-use Rattle.turn_lock.specs.Seats.{own_of}
+use Rattle.turn_lock.specs.Seat.{own_of}
 use Rattle.turn_lock.proofs.Speaking.{still_speaks}
 use Rattle.crew_tests.proofs.book.advance_once.Goals as goal
 

@@ -1,5 +1,5 @@
 use Rattle.std.proofs.Common.{◌≡◌, ◌+◌}
-use Rattle.commit_book.specs.Books.{after_commits}
+use Rattle.commit_book.specs.Book.{after_commits}
 use Rattle.schedule_drill.proofs.drill.advance_all.Given as goal
 
 abbrev pub invariant-loop-quantum : goal.invariant-loop-quantum

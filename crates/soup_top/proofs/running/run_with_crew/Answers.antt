@@ -1,6 +1,6 @@
 use Rattle.std.proofs.Common.{refl, ℕ, List, length, OnOk}
 use Rattle.std.specs.Prelude.{IfErr}
-use Rattle.bank_journal.specs.Journal.{BankState}
+use Rattle.bank_journal.specs.Bank.{BankState}
 use Rattle.bank_journal.proofs.Times.{for_file}
 use Rattle.desk_io.specs.Desk.{Elapses}
 use Rattle.desk_io.proofs.Time.{Elapses-none, KeepsDisk-none}

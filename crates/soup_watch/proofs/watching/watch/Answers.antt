@@ -5,7 +5,7 @@ use Rattle.tierra_model.specs.Serial.{serial}
 use Rattle.tierra_model.specs.Setups.{SetupFields}
 use Rattle.tierra_model.specs.World.{World}
 use Rattle.turn_lock.specs.declared.view.Summary.{Summary}
-use Rattle.commit_book.specs.Books.{BookFields, world_of}
+use Rattle.commit_book.specs.Book.{BookFields, world_of}
 use Rattle.crew.proofs.Speaking.{first_is}
 use Rattle.soup_watch.specs.Text.{sights_text}
 use Rattle.soup_watch.specs.Watching.{AreSights, IsWatchText}

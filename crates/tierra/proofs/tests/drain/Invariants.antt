@@ -1,5 +1,5 @@
-use Rattle.std.proofs.Common.{◌≡◌}
+use Rattle.desk_io.specs.Source.{HasNoReadFault}
 use Rattle.tierra.proofs.tests.drain.Given as goal
 
 abbrev pub invariant-loop : goal.invariant-loop
-invariant-loop g l = g.S.Source.faults l.source ≡ 0
+invariant-loop g l = HasNoReadFault (g.S.Source.state l.source)

@@ -1,6 +1,6 @@
 use Rattle.std.proofs.Common.{◌≡◌, ℕ, ◌+◌}
 use Rattle.std.specs.Prelude.{IsSome}
-use Rattle.turn_lock.specs.Seats.{own_of}
+use Rattle.turn_lock.specs.Seat.{own_of}
 use Rattle.turn_lock.proofs.tests.work.Given as goal
 
 abbrev pub invariant-loop : goal.invariant-loop

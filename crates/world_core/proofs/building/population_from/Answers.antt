@@ -1,8 +1,8 @@
-use Rattle.std.proofs.Common.{◌∙◌, List, ap, sym, ℕ}
+use Rattle.std.proofs.Common.{◌∙◌, List, ap, sym}
 use Rattle.tierra_model.specs.declared.creatures.Creature.{Creature}
 use Rattle.tierra_model.specs.Counting.{times_in}
 use Rattle.tierra_model.specs.Living.{ids_of, one_of}
-use Rattle.reaper_queue.specs.Queue.{ids_of as entry_ids}
+use Rattle.reaper_queue.specs.Reaper.{ids_of as entry_ids}
 use Rattle.world_core.specs.Population.{entries_of}
 use Rattle.world_core.proofs.Entries.{ids-entries}
 use Rattle.world_core.proofs.building.population_from.Goals as goal

@@ -1,7 +1,7 @@
 use Rattle.std.proofs.Common.{◌∙◌, ◌<◌, List, ℕ, ap, get_or, subst, take}
 use Rattle.tierra_model.specs.Counting.{times_in}
 use Rattle.tierra_model.specs.Living.{one_of}
-use Rattle.reaper_queue.specs.Queue.{ids_of as entry_ids}
+use Rattle.reaper_queue.specs.Reaper.{ids_of as entry_ids}
 use Rattle.world_core.proofs.Built.{listed-once, none-twice}
 use Rattle.world_core.proofs.Entries.{ids-entries}
 use Rattle.world_core.proofs.building.reaper_from.Goals as goal

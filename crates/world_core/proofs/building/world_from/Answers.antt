@@ -1,22 +1,20 @@
-use Rattle.std.proofs.Common.{◌≡◌, ◌∙◌, ◌<◌, ◌≤◌, ◌^◌, List, None, Some, ap, arith, length, refl, subst, sym, ℕ}
-use Rattle.std.specs.Prelude.{All, IfNone, IfSome, IsSome, not}
+use Rattle.std.proofs.Common.{◌≡◌, ◌∙◌, ◌<◌, ◌≤◌, ◌^◌, List, ap, arith, length, subst, sym, ℕ}
+use Rattle.std.specs.Prelude.{All, not}
 use Rattle.tierra_model.specs.declared.creatures.Creature.{Creature}
 use Rattle.tierra_model.specs.Counting.{times_in}
 use Rattle.tierra_model.specs.FreeList.{runs_of}
-use Rattle.tierra_model.specs.Living.{ids_of, one_of}
+use Rattle.tierra_model.specs.Living.{ids_of}
 use Rattle.tierra_model.specs.Ranges.{IsCode}
 use Rattle.tierra_model.specs.Room.{is_owned}
 use Rattle.tierra_model.specs.Sound.{IsPlaced, IsSound, Ordered, owners, times_coded}
 use Rattle.tierra_model.specs.World.{World}
-use Rattle.reaper_queue.specs.Queue.{ids_of as entry_ids}
 use Rattle.world_state.specs.declared.fields.Found.{Found}
 use Rattle.world_state.specs.contracts.draft.Draft.{the_view}
-use Rattle.world_core.specs.Population.{entries_of}
 use Rattle.world_state.specs.Reading.{genotypes_of}
 use Rattle.world_core.specs.Running.{WorldFields, number_with}
-use Rattle.world_core.proofs.Entries.{ids-entries}
 use Rattle.world_state.proofs.Joined.{codes-written, world-from}
 use Rattle.world_core.proofs.building.world_from.Goals as goal
+use Rattle.world_core.proofs.building.world_from.Goals.{After-of-running}
 
 pub soup_from-requires-clause-size : goal.soup_from-requires-clause-size
 soup_from-requires-clause-size c =
@@ -87,30 +85,21 @@ of-running-requires c =
     }
 
 -- the world that is put together is the one that was told
-pub finish-requires : goal.finish-requires
-finish-requires c =
-    let d = c.draft.inside in
+same : (c : After-of-running) → c.of-running.result.world ≡ the_view c.draft.inside
+same c =
     let is = c.of-running.ensures in
-    let same : c.of-running.result.world ≡ the_view d = world-from c.of-running.result.world (the_view d) (ap (λ (w : World). w.settings) is)
+    world-from c.of-running.result.world (the_view c.draft.inside) (ap (λ (w : World). w.settings) is)
     (ap (λ (w : World). w.soup) is ∙ c.in_ok-soup.ensures ∙ c.deref.ensures.value)
     (ap (λ (w : World). w.living) is ∙ c.in_ok-population.ensures.living ∙ c.deref-2.ensures.value)
     (ap (λ (w : World). w.slicer) is ∙ c.in_ok-population.ensures.slicer ∙ c.deref-3.ensures.value)
     (ap (λ (w : World). w.reaper) is ∙ c.in_ok-population.ensures.reaper ∙ c.deref-4.ensures.value)
     (ap (λ (w : World). w.genotypes) is ∙ c.of-genes.ensures.genotypes ∙ c.in_ok-genotypes.ensures ∙ ap genotypes_of c.deref-7.ensures.value)
     (ap (λ (w : World). w.saved) is ∙ c.of-genes.ensures.saved) (ap (λ (w : World). w.births) is) (ap (λ (w : World). w.deaths) is)
-    (ap (λ (w : World). w.next_birth) is) (ap (λ (w : World). w.quanta) is) in
-    subst IsSound (sym (same ∙ c.draft.view_is)) c.requires
+    (ap (λ (w : World). w.next_birth) is) (ap (λ (w : World). w.quanta) is)
+
+pub finish-requires : goal.finish-requires
+finish-requires c = subst IsSound (sym (same ((goal.at.finish-requires c).After-of-running) ∙ c.draft.view_is)) c.requires
 
 pub returns : goal.returns
 returns c =
-    let d = c.draft.inside in
-    let is = c.of-running.ensures in
-    let same : c.of-running.result.world ≡ the_view d = world-from c.of-running.result.world (the_view d) (ap (λ (w : World). w.settings) is)
-    (ap (λ (w : World). w.soup) is ∙ c.in_ok-soup.ensures ∙ c.deref.ensures.value)
-    (ap (λ (w : World). w.living) is ∙ c.in_ok-population.ensures.living ∙ c.deref-2.ensures.value)
-    (ap (λ (w : World). w.slicer) is ∙ c.in_ok-population.ensures.slicer ∙ c.deref-3.ensures.value)
-    (ap (λ (w : World). w.reaper) is ∙ c.in_ok-population.ensures.reaper ∙ c.deref-4.ensures.value)
-    (ap (λ (w : World). w.genotypes) is ∙ c.of-genes.ensures.genotypes ∙ c.in_ok-genotypes.ensures ∙ ap genotypes_of c.deref-7.ensures.value)
-    (ap (λ (w : World). w.saved) is ∙ c.of-genes.ensures.saved) (ap (λ (w : World). w.births) is) (ap (λ (w : World). w.deaths) is)
-    (ap (λ (w : World). w.next_birth) is) (ap (λ (w : World). w.quanta) is) in
-    ap (λ (f : WorldFields). f.world) c.finish.ensures ∙ same ∙ c.draft.view_is
+    ap (λ (f : WorldFields). f.world) c.finish.ensures ∙ same ((goal.at.returns c).After-of-running) ∙ c.draft.view_is

@@ -1,7 +1,7 @@
 use Rattle.std.proofs.Common.{◌≡◌, ◌-◌, ◌<◌, sym, ◌∙◌, ap, subst, arith}
 use Rattle.tierra_model.specs.Setups.{IsSetup}
 use Rattle.world_core.specs.Running.{WorldFields}
-use Rattle.commit_book.specs.Books.{BookFields}
+use Rattle.commit_book.specs.Book.{BookFields}
 use Rattle.commit_book.specs.Kept.{IsBook}
 use Rattle.commit_book.specs.contracts.book.Book.{the_view}
 use Rattle.commit_book.proofs.Keeping.{book-sound}

@@ -3,7 +3,7 @@ use Rattle.std.specs.Prelude.{List, Some, slice_get}
 use Rattle.tierra_model.specs.declared.history.Entry.{Entry}
 use Rattle.tierra_model.specs.declared.history.How.{How}
 use Rattle.commit_book.specs.declared.history.Line.{Line}
-use Rattle.commit_book.specs.Histories.{IsThere, how_by}
+use Rattle.commit_book.specs.History.{IsThere, how_by}
 use Rattle.commit_book.proofs.Recording.{each-at, entries-at, entries-length}
 use Rattle.commit_book.proofs.history.History.at.Goals as goal
 

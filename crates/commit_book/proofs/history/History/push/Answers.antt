@@ -1,7 +1,7 @@
 use Rattle.std.proofs.Common.{◌≡◌, ◌++◌, ◌∷◌, [], List, length, ◌∙◌, ap, subst, sym}
 use Rattle.tierra_model.proofs.Each.{Each}
 use Rattle.commit_book.specs.declared.history.Line.{Line}
-use Rattle.commit_book.specs.Histories.{IsThere, entries_of}
+use Rattle.commit_book.specs.History.{IsThere, entries_of}
 use Rattle.commit_book.proofs.Recording.{pushed}
 use Rattle.commit_book.proofs.history.History.push.Goals as goal
 

@@ -1,6 +1,6 @@
 use Rattle.std.proofs.Common.{◌-◌}
 use Rattle.std.specs.Arc.{arc_value}
-use Rattle.quantum_run.specs.Jobs.{OfSoundWorld}
+use Rattle.quantum_run.specs.Job.{OfSoundWorld}
 use Rattle.quantum_run.proofs.Crowds.{job_few}
 use Rattle.quantum_run.proofs.job.Job.of.Goals as goal
 

@@ -3,7 +3,7 @@ use Rattle.tierra_model.specs.declared.creatures.Block.{Block}
 use Rattle.tierra_model.specs.declared.parameters.Settings.{Settings}
 use Rattle.tierra_model.specs.Scene.{Scene}
 use Rattle.block_alloc.specs.Runs.{AreRuns}
-use Rattle.block_alloc.specs.Space.{Space}
+use Rattle.block_alloc.specs.Blocks.{BlocksFields}
 use Rattle.quantum_run.specs.OnScene.{SceneFields, SceneReady}
 use Rattle.quantum_run.specs.Seen.{fresh_cells}
 use Rattle.quantum_run.proofs.Happening.{fields_from, run_from}
@@ -60,8 +60,8 @@ returns-clause-ready c =
     let events : length scene.yard + m ≤ er = omega (arith, living, few, slice, c.in_ok-lists.ensures.len, c.in_ok-lists.ensures.events) in
     let standings : m ≤ yr = omega (arith, slice, c.in_ok-yard.ensures.room) in
     let blocks : 2 * length scene.yard + m ≤ br = omega (arith, living, few, slice, c.in_ok-free.ensures.room) in
-    let end : fields_from scene scene.front (fresh_cells scene.soup scene.front.own scene.front.daughter) (let z : Space = record { size = c.in_ok-free.free.size; free = scene.free; spare = br } in z) scene.yard false false [] 0 er yr
+    let end : fields_from scene scene.front (fresh_cells scene.soup scene.front.own scene.front.daughter) (let z : BlocksFields = record { size = c.in_ok-free.free.size; free = scene.free; spare = br } in z) scene.yard false false [] 0 er yr
     ≡ fields_from scene c.front-front.result.now c.begin-3.result c.in_ok-free.free c.in_ok-yard.yard.items false false c.in_ok-lists.lists.events.items 0 er yr =
-    (λ j. fields_from scene (sym front j) (sym cells j) (let z : Space = record { size = c.in_ok-free.free.size; free = sym free j; spare = br } in z) (sym yard j) false false (sym c.in_ok-lists.ensures.none j) 0 er yr) in
+    (λ j. fields_from scene (sym front j) (sym cells j) (let z : BlocksFields = record { size = c.in_ok-free.free.size; free = sym free j; spare = br } in z) (sym yard j) false false (sym c.in_ok-lists.ensures.none j) 0 er yr) in
     subst (λ (v : SceneFields). SceneReady v m) end
     (starts scene c.settings.ensures.sound (replicate (length scene.soup) false) c.in_ok-free.free.size er yr br m size refl (omega (arith, slice)) few events standings blocks)

@@ -1,13 +1,13 @@
 use Rattle.std.proofs.Common.{◌≡◌, ◌∙◌, ◌<◌, ◌^◌, sym, ap, subst, arith, rules, List, ℕ}
 use Rattle.tierra_model.specs.Queue.{error_move}
-use Rattle.reaper_queue.specs.Queue.{Queue, is_of, errors_of, errors_in, with_error}
+use Rattle.reaper_queue.specs.Reaper.{ReaperFields, is_of, errors_of, errors_in, with_error}
 use Rattle.reaper_queue.specs.Standing.{StandsAt}
 use Rattle.reaper_queue.proofs.Changes.{count-at, raised-at, stands-raised, once-error}
 use Rattle.reaper_queue.proofs.reaper.Reaper.error.Goals as goal
 use Rattle.reaper_queue.proofs.reaper.Reaper.error.Goals.{After-index, After-move_up}
 
 entries-is : (c : After-index) → c.self.inside.entries.items ≡ c.args.self.now.entries
-entries-is c = ap (λ (q : Queue). q.entries) (c.self.view_is ∙ c.find_place-place.ensures.same)
+entries-is c = ap (λ (q : ReaperFields). q.entries) (c.self.view_is ∙ c.find_place-place.ensures.same)
 
 here : (c : After-index) → StandsAt c.self.inside.entries.items c.args.id c.find_place-place.result
 here c = subst (λ (xs : List (ℕ × ℕ)). StandsAt xs c.args.id c.find_place-place.result) (sym (entries-is c)) c.find_place-place.ensures.here

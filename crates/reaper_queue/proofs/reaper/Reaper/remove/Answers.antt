@@ -1,7 +1,7 @@
 use Rattle.std.proofs.Common.{◌≡◌, ◌∙◌, ◌<◌, List, ℕ, ap, arith, length, rules, subst, sym}
 use Rattle.std.specs.Prelude.{filter, not, remove, ◌==◌}
 use Rattle.std.proofs.lemmas.Grind.{common_steps}
-use Rattle.reaper_queue.specs.Queue.{Queue}
+use Rattle.reaper_queue.specs.Reaper.{ReaperFields}
 use Rattle.reaper_queue.specs.Standing.{StandsAt}
 use Rattle.reaper_queue.proofs.Changes.{remove-filter}
 use Rattle.reaper_queue.proofs.Once.{once_filter}
@@ -9,7 +9,7 @@ use Rattle.reaper_queue.proofs.reaper.Reaper.remove.Goals as goal
 use Rattle.reaper_queue.proofs.reaper.Reaper.remove.Goals.{After-remove}
 
 entries-is : (c : After-remove) → c.self.inside.entries.items ≡ c.args.self.now.entries
-entries-is c = ap (λ (q : Queue). q.entries) (c.self.view_is ∙ c.find_place-place.ensures.same)
+entries-is c = ap (λ (q : ReaperFields). q.entries) (c.self.view_is ∙ c.find_place-place.ensures.same)
 
 -- what is left is the queue without the creature
 left : (c : After-remove) → c.remove.new.self.items ≡ filter (λ x. not (x.0 == c.args.id)) c.self.inside.entries.items

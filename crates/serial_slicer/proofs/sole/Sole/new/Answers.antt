@@ -2,7 +2,7 @@ use Rattle.std.proofs.Common.{◌≡◌, ◌∙◌, ◌+◌, ◌*◌, ◌/◌, �
 use Rattle.std.proofs.lemmas.Bool.Decides.{leb_tells}
 use Rattle.std.specs.Prelude.{slice_index_or}
 use Rattle.world_core.specs.Running.{WorldFields, can_be_set}
-use Rattle.soup_cells.specs.Cells.{is_ready}
+use Rattle.soup_cells.specs.Soup.{is_ready}
 use Rattle.serial_slicer.proofs.sole.Sole.new.Goals as goal
 
 -- the cells of a page are ready together

@@ -2,7 +2,7 @@ use Rattle.std.proofs.Common.{◌≡◌, ◌∙◌, ◌<◌, arith, length, remo
 use Rattle.std.proofs.lemmas.List.Quantifiers.{position-Some}
 use Rattle.std.proofs.lemmas.Grind.{common_steps}
 use Rattle.std.specs.Prelude.{filter, not, ◌==◌}
-use Rattle.slicer_queue.specs.Queue.{Queue}
+use Rattle.slicer_queue.specs.Slicer.{SlicerFields}
 use Rattle.slicer_queue.proofs.Once.{remove-filter, once_filter}
 use Rattle.slicer_queue.proofs.Found.{found}
 use Rattle.slicer_queue.proofs.slicer.Slicer.remove.Goals as goal
@@ -21,7 +21,7 @@ pub invariant_of-self : goal.invariant_of-self
 invariant_of-self c = rw (left ((goal.at.invariant_of-self c).After-remove)) (once_filter c.self.inside.ids.items c.args.id c.self.invariant)
 
 pub returns-clause-ids : goal.returns-clause-ids
-returns-clause-ids c = left ((goal.at.returns-clause-ids c).After-remove) ∙ ap (λ (q : Queue). filter (λ x. not (x == c.args.id)) q.ids) c.self.view_is
+returns-clause-ids c = left ((goal.at.returns-clause-ids c).After-remove) ∙ ap (λ (q : SlicerFields). filter (λ x. not (x == c.args.id)) q.ids) c.self.view_is
 
 pub unreachable-requires : goal.unreachable-requires
-unreachable-requires c = found c.self.inside.ids.items c.args.id (rw (ap (λ (q : Queue). q.ids) c.self.view_is) c.requires) (sym c.in-None.ensures)
+unreachable-requires c = found c.self.inside.ids.items c.args.id (rw (ap (λ (q : SlicerFields). q.ids) c.self.view_is) c.requires) (sym c.in-None.ensures)

@@ -1,5 +1,5 @@
 use Rattle.std.proofs.Common.{◌∙◌, ◌<◌, ◌/◌, ap, get_or, length, rules, subst, sym, ℕ}
-use Rattle.soup_cells.specs.Cells.{Cells}
+use Rattle.soup_cells.specs.Soup.{SoupFields}
 use Rattle.soup_cells.specs.Pages.{page_cells}
 use Rattle.soup_cells.proofs.Indexed.{HasCell, has-cell}
 use Rattle.soup_cells.proofs.pages.Pages.get.Goals as goal
@@ -8,7 +8,7 @@ use Rattle.soup_cells.proofs.pages.Pages.get.Goals.{After-self}
 there : (c : After-self) → HasCell page_cells c.self.inside.pages.items c.args.at
 there c =
     has-cell page_cells c.self.inside.pages.items c.self.inside.size c.args.at c.self.invariant
-    (subst (λ (s : Cells). c.args.at < length s.cells) (sym c.self.view_is) c.requires)
+    (subst (λ (s : SoupFields). c.args.at < length s.cells) (sym c.self.view_is) c.requires)
 
 pub index-requires : goal.index-requires
 index-requires c =
@@ -22,7 +22,7 @@ pub returns-clause-value : goal.returns-clause-value
 returns-clause-value c =
     c.get.ensures
     ∙ (there ((goal.at.returns-clause-value c).After-self)).value c.index.result.now c.index.ensures
-    ∙ ap (λ (s : Cells). get_or s.cells c.args.at 0) c.self.view_is
+    ∙ ap (λ (s : SoupFields). get_or s.cells c.args.at 0) c.self.view_is
 
 pub returns-clause-code : goal.returns-clause-code
 returns-clause-code c =

@@ -1,13 +1,13 @@
 use Rattle.std.proofs.Common.{◌∙◌, ◌*◌, ◌+◌, ◌<◌, ℕ, List, ap, length, min, rules, subst, sym}
 use Rattle.std.specs.Prelude.{slice_index, slice_range}
-use Rattle.soup_cells.specs.Cells.{Cells}
+use Rattle.soup_cells.specs.Soup.{SoupFields}
 use Rattle.soup_cells.specs.Pages.{cells_of, page_cells}
 use Rattle.soup_cells.proofs.Indexed.{code-of-page, page-at}
 use Rattle.soup_cells.proofs.pages.Pages.page.Goals as goal
 use Rattle.soup_cells.proofs.pages.Pages.page.Goals.{After-self}
 
 there : (c : After-self) → 16384 * c.args.number < length (cells_of c.self.inside.pages.items)
-there c = subst (λ (s : Cells). 16384 * c.args.number < length s.cells) (sym c.self.view_is) c.requires
+there c = subst (λ (s : SoupFields). 16384 * c.args.number < length s.cells) (sym c.self.view_is) c.requires
 
 pub index-requires : goal.index-requires
 index-requires c =
@@ -20,7 +20,7 @@ returns-clause-cells c =
     c.cells.ensures
     ∙ (page-at page_cells c.self.inside.pages.items c.self.inside.size c.args.number c.self.invariant.paged (there ((goal.at.returns-clause-cells c).After-self))).1
     c.index.result.now c.index.ensures
-    ∙ ap (λ (s : Cells). slice_range s.cells (16384 * c.args.number) (min (16384 * c.args.number + 16384) (length s.cells))) c.self.view_is
+    ∙ ap (λ (s : SoupFields). slice_range s.cells (16384 * c.args.number) (min (16384 * c.args.number + 16384) (length s.cells))) c.self.view_is
 
 pub returns-clause-codes : goal.returns-clause-codes
 returns-clause-codes c p h =

@@ -1,7 +1,7 @@
 use Rattle.std.proofs.Common.{◌≡◌, ◌∙◌, ◌<◌, ◌/◌, ap, false, get_or, length, map, rules, set, subst, sym, true}
 use Rattle.std.proofs.Math.Seq.{map-set_same}
 use Rattle.std.specs.List.{concat}
-use Rattle.soup_cells.specs.Cells.{Cells, is_ready}
+use Rattle.soup_cells.specs.Soup.{SoupFields, is_ready}
 use Rattle.soup_cells.specs.Pages.{AreCells, is_own, page_cells}
 use Rattle.soup_cells.proofs.Flags.{on-ok, own-kept, own-set}
 use Rattle.soup_cells.proofs.Indexed.{HasCell, has-cell}
@@ -11,7 +11,7 @@ use Rattle.soup_cells.proofs.pages.Pages.ready.Goals.{After-self, After-make_own
 there : (c : After-self) → HasCell page_cells c.self.inside.pages.items c.args.at
 there c =
     has-cell page_cells c.self.inside.pages.items c.self.inside.size c.args.at c.self.invariant
-    (subst (λ (s : Cells). c.args.at < length s.cells) (sym c.self.view_is) c.requires)
+    (subst (λ (s : SoupFields). c.args.at < length s.cells) (sym c.self.view_is) c.requires)
 
 -- no page has other cells
 same : (c : After-make_own) → map page_cells (set c.self.inside.pages.items (c.args.at / 16384) c.make_own.new.self) ≡ map page_cells c.self.inside.pages.items
@@ -28,7 +28,7 @@ pub invariant_of-self : goal.invariant_of-self
 invariant_of-self c = subst (AreCells c.self.inside.size) (sym (same ((goal.at.invariant_of-self c).After-make_own))) c.self.invariant
 
 pub returns-clause-cells : goal.returns-clause-cells
-returns-clause-cells c = ap concat (same ((goal.at.returns-clause-cells c).After-make_own)) ∙ ap (λ (s : Cells). s.cells) c.self.view_is
+returns-clause-cells c = ap concat (same ((goal.at.returns-clause-cells c).After-make_own)) ∙ ap (λ (s : SoupFields). s.cells) c.self.view_is
 
 pub returns-clause-ok : goal.returns-clause-ok
 unfolding is_ready
@@ -43,4 +43,4 @@ returns-clause-kept c p h =
     own-kept is_own c.self.inside.pages.items (c.args.at / 16384) (p / 16384) c.index_mut.result.now c.make_own.new.self
     (there ((goal.at.returns-clause-kept c).After-self)).page c.index_mut.ensures.value
     (λ (up : is_own c.index_mut.result.now ≡ true). c.make_own.ensures.kept up)
-    (ap (λ (s : Cells). get_or s.own (p / 16384) false) c.self.view_is ∙ h)
+    (ap (λ (s : SoupFields). get_or s.own (p / 16384) false) c.self.view_is ∙ h)

@@ -2,7 +2,7 @@ use Rattle.std.proofs.Common.{◌≡◌, ◌∙◌, ◌<◌, ◌/◌, ◌%◌, A
 use Rattle.std.proofs.Math.Seq.{map-set_same}
 use Rattle.std.proofs.lemmas.List.{get_or-map}
 use Rattle.std.proofs.lemmas.List.Elements.{All-set}
-use Rattle.soup_cells.specs.Cells.{Cells, is_ready}
+use Rattle.soup_cells.specs.Soup.{SoupFields, is_ready}
 use Rattle.soup_cells.specs.declared.page.Page.{Page}
 use Rattle.soup_cells.specs.Pages.{cells_of, is_own, page_cells}
 use Rattle.soup_cells.proofs.Indexed.{HasCell, cell-set, has-cell, paged-set}
@@ -10,7 +10,7 @@ use Rattle.soup_cells.proofs.pages.Pages.set.Goals as goal
 use Rattle.soup_cells.proofs.pages.Pages.set.Goals.{After-self, After-set}
 
 within : (c : After-self) → c.args.at < length (cells_of c.self.inside.pages.items)
-within c = subst (λ (s : Cells). c.args.at < length s.cells) (sym c.self.view_is) c.requires.within
+within c = subst (λ (s : SoupFields). c.args.at < length s.cells) (sym c.self.view_is) c.requires.within
 
 there : (c : After-self) → HasCell page_cells c.self.inside.pages.items c.args.at
 there c = has-cell page_cells c.self.inside.pages.items c.self.inside.size c.args.at c.self.invariant (within c)
@@ -47,20 +47,20 @@ invariant_of-self c =
 pub returns-clause-cells : goal.returns-clause-cells
 returns-clause-cells c =
     written ((goal.at.returns-clause-cells c).After-set) (within ((goal.at.returns-clause-cells c).After-self))
-    ∙ ap (λ (s : Cells). set s.cells c.args.at c.args.value) c.self.view_is
+    ∙ ap (λ (s : SoupFields). set s.cells c.args.at c.args.value) c.self.view_is
 
 pub set-requires-clause-own : goal.set-requires-clause-own
 unfolding is_ready
 set-requires-clause-own c = own c.self.inside.pages.items (c.args.at / 16384) c.index_mut.result.now (there ((goal.at.set-requires-clause-own c).After-self)).page c.index_mut.ensures.value
-    (ap (λ (s : Cells). get_or s.own (c.args.at / 16384) false) c.self.view_is ∙ c.requires.ready)
+    (ap (λ (s : SoupFields). get_or s.own (c.args.at / 16384) false) c.self.view_is ∙ c.requires.ready)
 
 pub returns-clause-ready : goal.returns-clause-ready
 unfolding is_ready
 returns-clause-ready c p =
     let is : is_own c.index_mut.result.now ≡ true =
     own c.self.inside.pages.items (c.args.at / 16384) c.index_mut.result.now (there ((goal.at.returns-clause-ready c).After-self)).page c.index_mut.ensures.value
-    (ap (λ (s : Cells). get_or s.own (c.args.at / 16384) false) c.self.view_is ∙ c.requires.ready) in
+    (ap (λ (s : SoupFields). get_or s.own (c.args.at / 16384) false) c.self.view_is ∙ c.requires.ready) in
     ap (λ (flags : List Bool). get_or flags (p / 16384) false)
     (map-set_same is_own c.self.inside.pages.items (c.args.at / 16384) c.set.new.self c.index_mut.result.now
     (c.set.ensures.own ∙ sym is ∙ ap is_own c.index_mut.ensures.value))
-    ∙ ap (λ (s : Cells). get_or s.own (p / 16384) false) c.self.view_is
+    ∙ ap (λ (s : SoupFields). get_or s.own (p / 16384) false) c.self.view_is

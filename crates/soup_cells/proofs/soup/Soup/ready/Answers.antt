@@ -1,5 +1,5 @@
 use Rattle.std.proofs.Common.{◌∙◌, ◌<◌, ap, length, subst, sym}
-use Rattle.soup_cells.specs.Cells.{Cells, is_ready}
+use Rattle.soup_cells.specs.Soup.{SoupFields, is_ready}
 use Rattle.soup_cells.specs.Paging.{soup_of}
 use Rattle.soup_cells.specs.declared.soup.Paging.{Paging}
 use Rattle.soup_cells.proofs.Rows.{row-ready}
@@ -10,7 +10,7 @@ pub returns-clause-ok : goal.returns-clause-ok
 unfolding is_ready
 returns-clause-ok c =
     let row = c.self.inside.row in
-    let within : c.args.at < length row = subst (λ (s : Cells). c.args.at < length s.cells) (sym c.self.view_is) c.requires in
+    let within : c.args.at < length row = subst (λ (s : SoupFields). c.args.at < length s.cells) (sym c.self.view_is) c.requires in
     elim c.match-self.branch [
       | in-Uncut w ↦ rw w.result-is (rw w.self-inside-is
           (ap (λ (p : Paging). is_ready (soup_of row p) c.args.at) w.in-Uncut.is

@@ -1,6 +1,6 @@
 use Rattle.std.proofs.Common.{◌+◌, sym, ap, ◌∙◌}
-use Rattle.turn_lock.specs.Summaries.{summary_of, entries_by}
-use Rattle.turn_lock.specs.Seats.{own_total}
+use Rattle.turn_lock.specs.Summary.{summary_of, entries_by}
+use Rattle.turn_lock.specs.Seat.{own_total}
 use Rattle.turn_lock.specs.Mirrors.{view_of, seat_of}
 use Rattle.turn_lock.proofs.Closing.{closed, closed_value}
 use Rattle.turn_lock.proofs.lock.TurnLock.close.Goals as goal

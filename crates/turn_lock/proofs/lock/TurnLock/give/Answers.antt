@@ -1,5 +1,5 @@
 use Rattle.std.proofs.Common.{rules, arith, ◌≡◌, ◌-◌, ◌∙◌, List, None, Option, Some, get_or, refl, ap, sym, ℕ}
-use Rattle.turn_lock.specs.Summaries.{summary_of}
+use Rattle.turn_lock.specs.Summary.{summary_of}
 use Rattle.turn_lock.specs.Mirrors.{view_of, seat_of}
 use Rattle.turn_lock.proofs.Returning.{commits_inside, place_inside, place_is, count_fits, mirrors_given, given_back, given_back_as, publish_allowed, pass_allowed, given_views}
 use Rattle.turn_lock.proofs.lock.TurnLock.give.Goals as goal

@@ -1,5 +1,5 @@
 use Rattle.std.proofs.Common.{rules, subst, sym, ap, ◌∙◌, [], ◌∷◌}
-use Rattle.turn_lock.specs.Views.{WaitsFor, IsActive, merged, after_join}
+use Rattle.turn_lock.specs.View.{WaitsFor, IsActive, merged, after_join}
 use Rattle.turn_lock.specs.Mirrors.{view_of, seat_of}
 use Rattle.turn_lock.proofs.Loading.{loads_serving}
 use Rattle.turn_lock.proofs.Joining.{joins}

@@ -1,6 +1,6 @@
 use Rattle.std.proofs.Common.{◌≡◌, ℕ, List, length}
 use Rattle.turn_lock.specs.declared.view.Stage.TheVariants.{Called}
-use Rattle.turn_lock.specs.Views.{at_stage}
+use Rattle.turn_lock.specs.View.{at_stage}
 use Rattle.turn_lock.proofs.lock.TurnLock.read_counts.Given as goal
 
 abbrev pub invariant-loop-i : goal.invariant-loop-i

@@ -1,5 +1,5 @@
 use Rattle.std.proofs.Common.{rules, sym, subst}
-use Rattle.turn_lock.specs.Views.{IsActive}
+use Rattle.turn_lock.specs.View.{IsActive}
 use Rattle.turn_lock.proofs.Loading.{loads_serving}
 use Rattle.turn_lock.proofs.lock.TurnLock.served_before.Goals as goal
 

@@ -1,7 +1,7 @@
 use Rattle.std.proofs.Common.{rules, arith, ◌≡◌, ◌+◌, subst, sym, ap, ◌∙◌, [], ◌∷◌}
 use Rattle.std.specs.Prelude.{unwrap_or}
-use Rattle.turn_lock.specs.Views.{own_at, IsActive, after_split, new_view, last_of}
-use Rattle.turn_lock.specs.Seats.{own_of}
+use Rattle.turn_lock.specs.View.{own_at, IsActive, after_split, new_view, last_of}
+use Rattle.turn_lock.specs.Seat.{own_of}
 use Rattle.turn_lock.specs.Mirrors.{view_of}
 use Rattle.turn_lock.proofs.OwnCounts.{value_of, value_where}
 use Rattle.turn_lock.proofs.Splitting.{splits}

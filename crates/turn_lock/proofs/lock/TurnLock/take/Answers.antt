@@ -1,6 +1,6 @@
 use Rattle.std.proofs.Common.{rules, arith, ◌+◌, length, ◌∷◌, Some, ap, sym, ◌∙◌}
 use Rattle.atomic_table.specs.Table.{rest}
-use Rattle.turn_lock.specs.Summaries.{entries_by}
+use Rattle.turn_lock.specs.Summary.{entries_by}
 use Rattle.turn_lock.specs.Mirrors.{view_of}
 use Rattle.turn_lock.proofs.Drawing.{draws}
 use Rattle.turn_lock.proofs.Taking.{takes_slot}

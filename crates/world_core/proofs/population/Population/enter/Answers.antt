@@ -1,7 +1,7 @@
 use Rattle.std.proofs.Common.{◌≡◌, ◌∙◌, ℕ, List, [], ◌∷◌, ◌++◌, ap, subst, sym, arith}
 use Rattle.tierra_model.specs.Counting.{times_in}
 use Rattle.tierra_model.specs.Living.{ids_of}
-use Rattle.reaper_queue.specs.Queue.{ids_of as entry_ids}
+use Rattle.reaper_queue.specs.Reaper.{ids_of as entry_ids}
 use Rattle.world_core.specs.Population.{PopulationFields, entries_of}
 use Rattle.world_core.proofs.Entries.{entries-entered}
 use Rattle.world_core.proofs.population.Population.enter.Goals as goal

@@ -2,7 +2,7 @@ use Rattle.std.proofs.Common.{◌≡◌, ◌∙◌, ◌<◌, ◌≤◌, ◌+◌,
 use Rattle.tierra_model.specs.Counting.{times_in}
 use Rattle.tierra_model.specs.Living.{ids_of, one_of, with_record}
 use Rattle.tierra_model.specs.Queue.{error_move}
-use Rattle.reaper_queue.specs.Queue.{errors_in, errors_of, ids_of as entry_ids, is_of, with_error}
+use Rattle.reaper_queue.specs.Reaper.{errors_in, errors_of, ids_of as entry_ids, is_of, with_error}
 use Rattle.world_core.specs.Population.{PopulationFields, entries_of}
 use Rattle.world_core.proofs.Entries.{Moved, entries-error, errors-entries}
 use Rattle.world_core.proofs.population.Population.error.Goals as goal

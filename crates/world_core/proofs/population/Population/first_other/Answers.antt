@@ -3,7 +3,7 @@ use Rattle.std.proofs.lemmas.List.{length-map}
 use Rattle.std.specs.Prelude.{slice_index}
 use Rattle.tierra_model.specs.Counting.{times_in}
 use Rattle.tierra_model.specs.Queue.{place_of_first_other}
-use Rattle.reaper_queue.specs.Queue.{ids_of}
+use Rattle.reaper_queue.specs.Reaper.{ids_of}
 use Rattle.world_core.specs.Population.{PopulationFields}
 use Rattle.world_core.proofs.FirstOther.{first_id, other-first, other-none, other-second}
 use Rattle.world_core.proofs.population.Population.first_other.Goals as goal

@@ -1,7 +1,7 @@
 use Rattle.std.proofs.Common.{◌∙◌, ◌==◌, ap, subst, sym}
 use Rattle.tierra_model.specs.Living.{one_of}
 use Rattle.tierra_model.specs.Queue.{good_move}
-use Rattle.reaper_queue.specs.Queue.{errors_of, ids_of as entry_ids, is_of}
+use Rattle.reaper_queue.specs.Reaper.{errors_of, ids_of as entry_ids, is_of}
 use Rattle.world_core.specs.Population.{PopulationFields, entries_of}
 use Rattle.world_core.proofs.Entries.{Moved, entries-good}
 use Rattle.world_core.proofs.population.Population.good.Goals as goal

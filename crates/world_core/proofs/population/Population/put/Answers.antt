@@ -3,7 +3,7 @@ use Rattle.tierra_model.specs.Counting.{times_in}
 use Rattle.tierra_model.specs.declared.creatures.Creature.{Creature}
 use Rattle.std.proofs.Common.{List}
 use Rattle.tierra_model.specs.Living.{ids_of, one_of}
-use Rattle.reaper_queue.specs.Queue.{ids_of as entry_ids}
+use Rattle.reaper_queue.specs.Reaper.{ids_of as entry_ids}
 use Rattle.world_core.specs.Population.{PopulationFields, entries_of}
 use Rattle.world_core.proofs.Entries.{entries-put}
 use Rattle.world_core.proofs.population.Population.put.Goals as goal

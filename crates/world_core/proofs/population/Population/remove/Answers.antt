@@ -1,7 +1,7 @@
 use Rattle.std.proofs.Common.{◌∙◌, ◌==◌, ℕ, ap, subst, sym}
 use Rattle.std.specs.Prelude.{filter, not}
 use Rattle.tierra_model.specs.Living.{without}
-use Rattle.reaper_queue.specs.Queue.{ids_of as entry_ids}
+use Rattle.reaper_queue.specs.Reaper.{ids_of as entry_ids}
 use Rattle.world_core.specs.Population.{PopulationFields, entries_of}
 use Rattle.world_core.proofs.Entries.{Moved, entries-removed}
 use Rattle.world_core.proofs.population.Population.remove.Goals as goal

@@ -6,7 +6,7 @@ use Rattle.turn_lock.specs.declared.view.Summary.{Summary}
 use Rattle.turn_lock.specs.declared.view.View.{View}
 use Rattle.turn_lock.specs.declared.view.Stage.{Stage}
 use Rattle.turn_lock.specs.declared.view.Stage.TheVariants.{Spent, Idle, Waiting, Called, Holding}
-use Rattle.turn_lock.specs.Seats.{only}
+use Rattle.turn_lock.specs.Seat.{only}
 
 -- how many tickets a caller may draw
 abbrev pub most_tickets : ℕ

@@ -3,7 +3,7 @@ use Rattle.std.specs.Prelude.{Bool, List, [], if◌then◌else◌, map, ℕ, ◌
 
 -- The creatures from the top on, each once, by birth number and error count; and how many more can enter without
 -- memory.
-pub record Queue : Type 0 where
+pub record ReaperFields : Type 0 where
   pub entries : List (ℕ × ℕ)
   pub spare : ℕ
 

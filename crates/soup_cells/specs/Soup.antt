@@ -2,10 +2,10 @@
 use Rattle.std.specs.Prelude.{Bool, List, false, slice_index_or, ℕ, ◌/◌}
 
 -- the cells, and for each page of 16384 of them whether it is the soup's own
-pub record Cells : Type 0 where
+pub record SoupFields : Type 0 where
   pub cells : List ℕ
   pub own : List Bool
 
 -- the cell can be set
-unfoldable pub is_ready : Cells → ℕ → Bool
+unfoldable pub is_ready : SoupFields → ℕ → Bool
 is_ready soup at = slice_index_or soup.own (at / 16384) false
