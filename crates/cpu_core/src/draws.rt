@@ -6,6 +6,7 @@ ghost use Rattle.cpu_core.specs.Draws.{IsFlaw, flaw_of, copy_bit_of};
 use mutation_streams::Draws;
 
 /// The flaw of instruction `i`.
+#[inline(always)]
 #[tactic(auto, unfolding(crate::specs::Draws::flaw_of))]
 pub fn flaw(draws: &mut Draws, i: u32) -> i32
     ensures value { result ≡ flaw_of draws.old i }
@@ -16,6 +17,7 @@ pub fn flaw(draws: &mut Draws, i: u32) -> i32
 }
 
 /// The bit that the copy of instruction `i` flips, if any.
+#[inline(always)]
 #[tactic(auto, unfolding(crate::specs::Draws::copy_bit_of))]
 pub fn copy_bit(draws: &mut Draws, i: u32) -> Option<u8>
     ensures value { result ≡ copy_bit_of draws.old i }
