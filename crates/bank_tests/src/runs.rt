@@ -125,7 +125,7 @@ fn is_done_with<R: Threads + Wait + Sync>(
     Ok(ended.is_done(text) && sum_of(&ended.file(0)?) == *bank)
 }
 
-/// The same of the run of the three ancestors.
+/// Whether the run of the three ancestors over the file is done, with its text and its bank.
 fn is_done_of_three<R: Threads + Wait + Sync>(
     rt: &R,
     alloc: Global,
@@ -336,7 +336,7 @@ fn a_tell_that_fails_is_the_last_call(rt: HostRuntime) -> Result<(), Fail> {
     Ok(())
 }
 
-/// Whether each crash leaves a bank with at least so many groups, and at most three.
+/// Whether each crash leaves a bank with at least this many groups, and at most three.
 fn keeps_groups(alloc: Global, ended: &Ended, least: u64) -> Result<bool, Fail> {
     for pick in 0..4u32 {
         let image = ended.file(pick)?;
@@ -391,7 +391,7 @@ fn bank_of_three<R: Threads + Wait + Sync>(
     Ok(bank)
 }
 
-/// Whether the run of the three goes on from that image, or refuses it for a group that is damaged.
+/// Whether the run of the three goes on from that image, or refuses it where a group is given as damaged.
 fn goes_on_or_refuses<R: Threads + Wait + Sync>(
     rt: &R,
     alloc: Global,
@@ -433,7 +433,7 @@ fn another_file_is_refused(rt: HostRuntime) -> Result<(), Fail> {
     let mut found = SETUP_OF_THREE;
     found[0] = 9;
     let wanted = SETUP_OF_THREE;
-    // The title, the digest, and a code of group 1.
+    // A byte of the title, of the digest, and of a code in group 1.
     let rows: [(usize, BankFault, &str); 3] = [
         (1, BankFault::NotABank, " is not a genebank"),
         (
@@ -553,7 +553,7 @@ fn a_group_that_does_not_fit_differs(rt: HostRuntime) -> Result<(), Fail> {
     Ok(())
 }
 
-/// The bytes from one place to another, which are there.
+/// The bytes from one place to another, or a failure where the bytes end earlier.
 pub(crate) fn part_of(
     alloc: Global,
     bytes: &[u8],

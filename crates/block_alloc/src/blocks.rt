@@ -50,7 +50,7 @@ impl Blocks {
         })
     }
 
-    /// An allocator of which these are the runs of free cells.
+    /// An allocator whose runs of free cells are these.
     pub fn of_runs(alloc: Global, size: u32, runs: &[Block]) -> Result<Blocks, OutOfMemory>
         requires { AreRuns 0 size runs.now }
         ensures size { IfOk result (λ b. b.size ≡ size) }
@@ -77,7 +77,7 @@ impl Blocks {
         }
     }
 
-    /// Lets these be the runs of free cells in a soup of `size` cells, whatever was free before. It takes no memory.
+    /// Sets the runs of free cells to these, in a soup of `size` cells, whatever was free before. It takes no memory.
     pub fn refill(&mut self, size: u32, runs: &[Block])
         requires runs { AreRuns 0 size runs.now }
         requires room { length runs.now ≤ length self.old.free + self.old.spare }
@@ -124,7 +124,7 @@ impl Blocks {
         self.filled += block.size;
     }
 
-    /// Gives a block back, whose cells are then free.
+    /// Gives a block back; its cells are then free.
     pub fn give_back(&mut self, block: Block)
         requires within { AllBelow self.old.size block }
         requires owned { (p : ℕ) → is_in block p ≡ true → is_in_some self.old.free p ≡ false }

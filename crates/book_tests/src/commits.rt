@@ -72,7 +72,7 @@ fn bytes_of(alloc: Global, world: &World) -> Result<Vec<u8>, OutOfMemory> {
     Ok(world.state_bytes(alloc)?.items)
 }
 
-/// Offers a finding, as a caller.
+/// Offers a finding as caller `by`.
 fn offer<L: Ledger>(
     alloc: Global,
     book: &mut Book,
@@ -167,7 +167,7 @@ fn the_second_is_stale_where_the_first_wrote(rt: HostRuntime) -> Result<(), Fail
     two_quanta::<_, Brand>(&rt, rt.alloc(), Blank::new(1))
 }
 
-/// The first finding is offered. Where there is no memory for its commit it is dropped, and the quantum is committed anew.
+/// Offers the first finding. Where there is no memory for its commit, it is dropped, and the quantum is committed anew.
 fn fresh_or_missing<R: Abort, L: Ledger>(rt: &R, alloc: Global, blank: Blank) -> Result<(), Fail>
     requires name { blank.name ≡ L.name }
     requires parts { blank.parts ≡ L.parts }
@@ -204,7 +204,7 @@ fn sixth<L: Ledger>(alloc: Global, steps: &mut Steps<L>) -> Result<Option<Findin
     next_finding(alloc, &mut wide, steps)
 }
 
-/// What a book with the window answers to the finding.
+/// What a book with this window answers to the finding.
 fn offer_to<L: Ledger>(
     alloc: Global,
     file: &str,
@@ -218,7 +218,7 @@ fn offer_to<L: Ledger>(
     Ok(offer(alloc, &mut book, finding, 1, steps))
 }
 
-/// A finding is past the window of one book, and of other settings than another.
+/// Offers a finding to a book whose window it is past, and to a book with other settings.
 fn out_of_place<R: Abort, L: Ledger>(rt: &R, alloc: Global, blank: Blank) -> Result<(), Fail>
     requires name { blank.name ≡ L.name }
     requires parts { blank.parts ≡ L.parts }
@@ -243,7 +243,7 @@ fn a_finding_that_is_out_of_place_changes_nothing(rt: HostRuntime) -> Result<(),
     out_of_place::<_, Brand>(&rt, rt.alloc(), Blank::new(1))
 }
 
-/// Claims as many jobs as there are, and runs them.
+/// Claims up to eight jobs, and runs them.
 fn all_findings<L: Ledger>(
     alloc: Global,
     book: &mut Book,
@@ -258,7 +258,7 @@ fn all_findings<L: Ledger>(
     Ok(findings)
 }
 
-/// Offers them from the last one claimed to the first. Every third of them is lost.
+/// Offers the findings from the last one claimed to the first. Every third one is lost.
 fn offer_some<L: Ledger>(
     alloc: Global,
     book: &mut Book,
@@ -277,7 +277,7 @@ fn offer_some<L: Ledger>(
     }
 }
 
-/// Commits 2000 quanta by findings out of order and without.
+/// Commits 2000 quanta by findings out of order and without findings.
 fn commit_all<L: Ledger>(alloc: Global, book: &mut Book, steps: &mut Steps<L>) -> Result<(), Fail> {
     for round in 0..2000 {
         let findings = all_findings(alloc, book, steps)?;

@@ -1,4 +1,5 @@
-//! What the first quanta of small worlds find, each run alone on the world's beginning, worked by hand.
+//! What the first quanta of small worlds find, each run by itself from the world's start. All rows were worked out by
+//! hand.
 
 ghost use Rattle.std.specs.Prelude.{◌≡◌, ◌<◌};
 
@@ -24,7 +25,7 @@ struct Row {
     /// Each creature, and where its block begins and how large it is.
     yard: Option<&'static [(u64, u32, u32)]>,
     events: &'static [Event],
-    /// Of the record after: ip, ax, bx and cx, the instructions that it ran and its errors.
+    /// From the creature's record after the quantum: ip, ax, bx and cx, the instructions that it ran and its errors.
     after: (u32, i32, i32, i32, u64, u64),
 }
 
@@ -155,7 +156,7 @@ code = "zero or1 shl shl shl shl shl shl mal nop_0"
         events: &[Event::Mal { at: 10, size: 64 }, Event::Good],
         after: (25, 10, 0, 64, 25, 0),
     },
-    // the other creature dies for it
+    // the other creature dies to make room for a block
     Row {
         file: r#"
 soup_size = 100
@@ -183,7 +184,7 @@ code = "nop_1 nop_1 nop_1 nop_1 nop_1 nop_1 nop_1 nop_1 nop_1 nop_1"
         ],
         after: (25, 10, 0, 64, 25, 0),
     },
-    // the other creature dies, and there is no room all the same
+    // the other creature dies, but there is still no room
     Row {
         file: r#"
 soup_size = 100
@@ -292,7 +293,7 @@ code = "dec_c"
     },
 ];
 
-/// The job of a quantum, made of the beginning of a soup file's world, if it has so many creatures.
+/// The job of a quantum, made from the start of a soup file's world, if it has enough creatures.
 fn first_job(alloc: Global, file: &str, quantum: u64) -> Result<Option<Job>, Fail> {
     let mut book = Book::begin(alloc, setup_of(alloc, file)?, 10, 8)?;
     for _before in 1..quantum {

@@ -1,4 +1,4 @@
--- What a census says.
+-- What contracts see of a census.
 use Rattle.std.specs.Prelude.{nat_eq, unwrap_or, ℕ}
 use Rattle.std.specs.HashMap.{get, spare}
 use Rattle.census.specs.declared.Census.{Census}

@@ -27,7 +27,7 @@ impl Census {
         }
     }
 
-    /// Takes the memory that as many births may need.
+    /// Takes the memory that `more` births may need.
     pub fn reserve(&mut self, more: u32) -> Result<(), OutOfMemory>
         ensures same { (g : ℕ) → living_of self.new g ≡ living_of self.old g }
         ensures ok { OnOk result (more ≤ spare_of self.new) }

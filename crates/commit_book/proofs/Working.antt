@@ -18,7 +18,7 @@ use Rattle.commit_book.specs.Kept.{IsBook}
 use Rattle.commit_book.proofs.Committing.{own-agrees}
 use Rattle.commit_book.proofs.Keeping.{IsSoundBook, book-sound, finding-is_book, next-is_book}
 
--- the book with so many quanta committed
+-- the book with n quanta committed
 abbrev pub state_of : BookFields → ℕ → List (Option Finding) → List Entry → BookFields
 state_of b committed stash history = record b { committed = committed; handed = max b.handed committed; stash = stash; history = history }
 

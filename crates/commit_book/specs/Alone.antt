@@ -12,12 +12,12 @@ own_finding b = finding_of (scene_of (world_of b))
 abbrev pub with_own : BookFields → BookFields
 with_own b = with_next 1 (with_finding (own_finding b) b)
 
--- so many are
+-- the next k quanta are committed so
 abbrev pub after_own : ℕ → BookFields → BookFields
 after_own zero b = b
 after_own (suc k) b = with_own (after_own k b)
 
--- the one book is the other after some quanta more, and one at least where some are left
+-- the new book is the old one after some more quanta, at least one if any are left
 pub record WorksOn (old new : BookFields) : Type 0 where
   pub done : ℕ
   pub book : new ≡ after_own done old

@@ -15,19 +15,19 @@ how_by differences way.Fresh = how.Fresh
 how_by differences way.Missing = how.Missing
 how_by differences (way.Stale place) = how.Stale (slice_index_or differences place stale.Body)
 
--- a difference that is spoken of is one of so many
+-- the number of a difference is in range
 abbrev pub IsThere : ℕ → Way → Type 0
 IsThere n way.Fresh = Unit {0}
 IsThere n way.Missing = Unit {0}
 IsThere n (way.Stale place) = place < n
 
--- the entries of these lines, after n others
+-- the entries of these lines, after n earlier entries
 abbrev pub entries_of : List Stale → ℕ → List Line → List Entry
 entries_of differences n [] = []
 entries_of differences n (l ∷ ls) =
     record { quantum = n + 1; creature = l.creature; by = l.by; how = how_by differences l.way } ∷ entries_of differences (n + 1) ls
 
--- lines that speak of the differences before make the same entries with those after
+-- lines whose differences are in the list before have the same entries with the list after
 abbrev pub KeepsLines : List Stale → List Stale → Type 0
 KeepsLines before after =
     (ls : List Line) → Each (λ l. IsThere (length before) l.way) ls

@@ -20,9 +20,9 @@ use std::collections::VecDeque;
 use tierra_model::{How, OutOfMemory};
 
 impl Book {
-    /// Runs and commits quanta until one saves a genotype or all are committed, by caller 1, who works alone. Each is committed
-    /// as a finding that was made and offered while the world stayed the same, and runs in the world itself. The gate is
-    /// called as for a job. Where there was no memory the book is gone.
+    /// Runs and commits quanta as caller 1, until one saves a genotype or all are committed. Each runs in the world
+    /// itself, and is committed like a fresh finding. The gate is called as for a job. If memory runs out, the book is
+    /// lost.
     pub fn work_on<G: Gate>(self, alloc: Global, gate: &G) -> Result<Book, OutOfMemory>
         ensures { IfOk result (WorksOn self) }
     {
@@ -63,7 +63,7 @@ impl Book {
     }
 }
 
-// The next quantum, of this number. What is kept for it is let go.
+// Runs the next quantum, which has this number. A finding kept for it is dropped.
 fn work_next<G: Gate>(
     alloc: Global,
     gate: &G,

@@ -7,15 +7,15 @@ use std::alloc::Global;
 use std::marker::Model;
 use tierra_model::{Entry, How, OutOfMemory, Stale};
 
-/// How the quanta were committed, one after another. Each takes 32 bytes, and what differed where a finding was stale lies
-/// apart.
+/// How the quanta were committed, in order. Each takes 32 bytes; the differences of stale findings are in a list of
+/// their own.
 #[derive(Debug, Drop)]
 pub struct History {
     lines: Vec<Line>,
     differences: Vec<Stale>,
 }
 
-/// An entry, but for its number, which its place tells.
+/// An entry without its number, which follows from its place.
 #[derive(Clone, Copy, Debug, Drop)]
 pub(crate) struct Line {
     creature: u64,
@@ -23,7 +23,7 @@ pub(crate) struct Line {
     way: Way,
 }
 
-/// As `How`, with the place of the difference.
+/// Like `How`, with the place of the difference instead of the difference.
 #[derive(Clone, Copy, Debug, Drop)]
 pub(crate) enum Way {
     Fresh,
@@ -45,7 +45,7 @@ impl Model for History {
 }
 
 impl History {
-    /// Nothing is committed.
+    /// A history with nothing committed.
     pub(crate) fn new(alloc: Global) -> History
         ensures { result ≡ [] }
     {
@@ -76,7 +76,7 @@ impl History {
         }
     }
 
-    /// One quantum more.
+    /// Appends the entry of the next quantum.
     pub(crate) fn push(&mut self, creature: u64, by: u32, how: How) -> Result<(), OutOfMemory>
         ensures ok { OnOk result (self.new ≡ self.old
             ++ record { quantum = length self.old + 1; creature = creature; by = by; how = how } ∷ []) }
@@ -89,7 +89,7 @@ impl History {
     }
 }
 
-// How the line of a quantum says how it was committed. A difference goes into the list.
+// Turns `How` into the `Way` of a line. A difference is appended to the list.
 fn way_of(how: How, differences: &mut Vec<Stale>) -> Result<Way, OutOfMemory>
     ensures how { IfOk result (λ w. how_by differences.new.items w ≡ how) }
     ensures there { IfOk result (IsThere (length differences.new.items)) }

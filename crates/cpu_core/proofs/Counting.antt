@@ -33,7 +33,7 @@ if_always_when : {A : Type 0} (P : A → Type 0) (b : Bool) (t u : Look A) → (
 if_always_when P true t u h k = h refl
 if_always_when P false t u h k = k
 
--- so many ran, at most so many moved
+-- the creature ran k instructions and moved at most m
 abbrev pub Counts : ℕ → ℕ → Creature → Outcome → Type 0
 Counts k m c o = (o.0.ran ≡ k) × (o.0.moved ≤ m) × WritesOwn c o.1
 

@@ -12,7 +12,7 @@ flaw_of d i = flaw d.flaw_rate (word d.seed d.quantum) i
 unfoldable pub copy_bit_of : DrawFields → ℕ → Option ℕ
 copy_bit_of d i = copy_bit d.copy_rate (word d.seed d.quantum) i
 
--- The settings with the rates by which the draws go: the same settings, where these are their draws.
+-- The settings with the rates of the draws. If the draws were made from the settings, these are the same settings.
 abbrev pub with_rates_of : DrawFields → Settings → Settings
 with_rates_of d s = record s { copy_rate = d.copy_rate; flaw_rate = d.flaw_rate }
 

@@ -14,7 +14,7 @@ use Rattle.tierra_model.specs.Step.{Outcome}
 abbrev pub start_record : Settings → Creature → Creature
 start_record s c = record c { ip = (c.ip + 1) % s.soup_size; flag = 0; ran = c.ran + 1 }
 
--- what the act leaves in a view: a write is done
+-- the view after the act: a write is done
 abbrev pub view_after : {S : Type 0} → (S → ℕ → ℕ → S) → Act → S → S
 view_after written act.Plain v = v
 view_after written (act.Wrote at value) v = written v at value
@@ -22,7 +22,7 @@ view_after written act.Erred v = v
 view_after written (act.Mal size) v = v
 view_after written act.Divide v = v
 
--- what it leaves of a record: an error is counted
+-- the record after the act: an error is counted
 abbrev pub creature_after : Act → Creature → Creature
 creature_after act.Plain c = c
 creature_after (act.Wrote at value) c = c
@@ -37,7 +37,7 @@ after_act written r =
     let (c, a) = outcome in
     (view_after written a v, (creature_after a c, a))
 
--- The looks begin with view v. When they and the act that they come to are done, the view is u and the record is c.
+-- From view v, once the looks and the act that they lead to are done, the view is u, the record is c, and the act is a.
 abbrev pub Executes : {S : Type 0} → (S → ℕ → ℕ) → (S → ℕ → S) → (S → ℕ → ℕ → S) → Look Outcome → S → S → Creature → Act → Type 0
 Executes cells looked written t v u c a = after_act written (pass cells looked t v) ≡ (u, (c, a))
 

@@ -1,5 +1,5 @@
-//! Instructions that compute with registers. The flaw of an instruction is 1 or -1, or 0 where it has none; but for or1
-//! and shl it is added to what the instruction writes.
+//! Instructions that compute with registers. The flaw of an instruction is 1 or -1, or 0 if it has none. It is
+//! added to what the instruction writes, except for or1 and shl.
 
 ghost use Rattle.std.specs.Prelude.{◌≡◌, ◌+ℤ◌, ◌^◌, pos, unsigned_abs};
 ghost use Rattle.tierra_model.specs.Ring.{minus, plus, times, xor};

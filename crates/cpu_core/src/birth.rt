@@ -51,7 +51,7 @@ pub fn divide(creature: &mut Creature, settings: &Settings) -> Act
 
 /// Ends a `mal` for which the block was taken, or, with `None`, one that found no room.
 ///
-/// A daughter block that was held is no longer held.
+/// A daughter block that was held before is given up.
 pub fn mal_done(creature: &mut Creature, got: Option<Block>)
     requires errors { creature.old.errors < COUNT_END }
     requires inside { ForSome got (λ block. block.at < 2 ^ 31) }

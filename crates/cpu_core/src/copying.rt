@@ -1,6 +1,6 @@
-//! The copy of a cell.
+//! Copying a cell.
 
-ghost use Rattle.std.specs.Prelude.{◌≡◌, ◌<◌, ◌+◌, ◌^◌, ◌||◌, ℕ, IsTrue, ◌↔◌, IfSome};
+ghost use Rattle.std.specs.Prelude.{◌≡◌, ◌<◌, ◌+◌, ◌^◌, IfSome};
 ghost use Rattle.tierra_model.specs.declared.limits.TheConstants.{COUNT_END};
 ghost use Rattle.tierra_model.specs.Blocks.{is_in_daughter};
 ghost use Rattle.tierra_model.specs.Ring.{address};
@@ -36,7 +36,7 @@ fn flip_bit(value: u8, bit: Option<u8>) -> u8
     }
 }
 
-/// Copies the cell at bx to the cell at ax, where it is in the creature's block or its daughter block.
+/// Copies the cell at bx to the cell at ax, which must be in the creature's block or its daughter block.
 pub fn mov_iab<V: View>(
     creature: &mut Creature,
     view: &mut V,

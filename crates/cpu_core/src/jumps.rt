@@ -1,4 +1,4 @@
-//! Instructions that go elsewhere, or find where they might go.
+//! Instructions that jump, or find an address to jump to.
 
 ghost use Rattle.std.specs.Prelude.{◌≡◌, ◌<◌, ◌+◌, ◌%◌, ◌^◌, pos, if◌then◌else◌};
 ghost use Rattle.tierra_model.specs.declared.limits.TheConstants.{COUNT_END};
@@ -46,7 +46,7 @@ pub fn if_cz(creature: &mut Creature, settings: &Settings) -> Act
     Act::Plain
 }
 
-/// Goes to the address that it pops.
+/// Pops an address, and goes there.
 pub fn ret(creature: &mut Creature, settings: &Settings) -> Act
     requires { creature.old.sp < 10 }
     ensures creature { creature.new
@@ -58,7 +58,7 @@ pub fn ret(creature: &mut Creature, settings: &Settings) -> Act
     Act::Plain
 }
 
-// What the instruction at `ip` finds.
+// What the search of the instruction at `ip` finds.
 fn find<V: View>(view: &mut V, ip: u32, way: Way, settings: &Settings) -> Found
     requires size { V.size view.old ≡ settings.now.soup_size }
     requires ip { ip < settings.now.soup_size }
@@ -68,7 +68,7 @@ fn find<V: View>(view: &mut V, ip: u32, way: Way, settings: &Settings) -> Found
     search(view, ip, way, settings.search_limit, settings.min_template)
 }
 
-/// Goes to the address that it finds.
+/// Goes to the address that its search finds.
 pub fn jump<V: View>(
     creature: &mut Creature,
     view: &mut V,
@@ -92,7 +92,7 @@ pub fn jump<V: View>(
     }
 }
 
-/// Pushes the next cell, and goes to the address that it finds.
+/// Pushes the address of the next cell, and goes to the one that its search finds.
 pub fn call<V: View>(creature: &mut Creature, view: &mut V, ip: u32, settings: &Settings) -> Act
     requires size { V.size view.old ≡ settings.now.soup_size }
     requires ip { ip < settings.now.soup_size }
@@ -112,7 +112,7 @@ pub fn call<V: View>(creature: &mut Creature, view: &mut V, ip: u32, settings: &
     }
 }
 
-/// Takes the address that it finds into ax, with its flaw.
+/// Puts the address that its search finds into ax, with its flaw added.
 pub fn find_address<V: View>(
     creature: &mut Creature,
     view: &mut V,
@@ -139,7 +139,7 @@ pub fn find_address<V: View>(
     }
 }
 
-// Pushes the next cell, and goes to the place.
+// Pushes the address of the next cell, and goes to the place.
 fn enter(creature: &mut Creature, place: u32)
     requires next { creature.old.ip < 2 ^ 31 }
     requires sp { creature.old.sp < 10 }
@@ -150,7 +150,7 @@ fn enter(creature: &mut Creature, place: u32)
     creature.ip = place;
 }
 
-// Takes the place into ax, with the flaw.
+// Puts the place into ax, with the flaw added.
 fn take_address(creature: &mut Creature, place: u32, draws: &mut Draws, i: u32)
     requires { place < 2 ^ 31 }
     ensures creature { creature.new ≡ record creature.old { ax = plus (pos place) (flaw_of draws.old i) } }

@@ -35,9 +35,9 @@ use template_search::Way;
 pub use tierra_model::Act;
 use tierra_model::{Creature, Op, Settings, View};
 
-/// Executes the instruction at the creature's `ip`, the number `i` of the quantum whose draws these are.
+/// Executes the instruction at the creature's `ip`, as instruction `i` of the quantum that has these draws.
 ///
-/// A write and an error are done. At `Mal` and `Divide` the caller does the rest, and then calls `mal_done` or
+/// A write or an error is done here. At `Mal` and `Divide` the caller does the rest, and then calls `mal_done` or
 /// `divide_done`.
 pub fn step<V: View, L: Ledger>(
     creature: &mut Creature,
@@ -84,7 +84,7 @@ fn decode(code: u8) -> Op
     op_of(code).unwrap()
 }
 
-// Executes the instruction at `ip`, where the record's `ip` is at the next cell already.
+// Executes the instruction at `ip`; the record's `ip` is at the next cell already.
 fn execute<V: View>(
     creature: &mut Creature,
     view: &mut V,

@@ -50,7 +50,7 @@ impl Register {
     }
 }
 
-/// Moves the pointer up, and stores there.
+/// Moves the pointer up, and stores the value there.
 pub fn push_value(creature: &mut Creature, value: i32)
     requires { creature.old.sp < 10 }
     ensures { creature.new ≡ push creature.old value }
@@ -59,7 +59,7 @@ pub fn push_value(creature: &mut Creature, value: i32)
     creature.stack[creature.sp as usize] = value;
 }
 
-/// Reads at the pointer, and moves it down.
+/// Reads the value at the pointer, and moves the pointer down.
 pub fn pop_value(creature: &mut Creature) -> i32
     requires { creature.old.sp < 10 }
     ensures creature { creature.new ≡ pop creature.old }

@@ -59,7 +59,7 @@ fn wraps(rt: HostRuntime) -> Result<(), Fail> {
     let alloc = rt.alloc();
     let most = 2147483647;
     let least = -2147483648;
-    // the code, the registers before and after; the first instruction has the flaw 1 where the rate is 1
+    // the code, the registers before and after; the first instruction has the flaw 1 if the rate is 1
     let rows = [
         (0x08, 0, (most, 0, 0, 0), (least, 0, 0, 0)),
         (0x0a, 0, (0, 0, least, 0), (0, 0, most, 0)),
@@ -168,7 +168,7 @@ fn jumps(rt: HostRuntime) -> Result<(), Fail> {
     )?;
     assert_eq!(rt; registers(&creature), (0, 1, 0, 0));
     assert_eq!(rt; (creature.ip, creature.flag, creature.errors), (28, 0, 0));
-    // jmpb finds nop_1 behind, across cell 0
+    // jmpb finds nop_1 going backward, across cell 0
     let mut back = newborn();
     let _ = run(&rt, alloc, &mut back, &[0x15, 0, 8, 1], (97, 1), STILL, 1)?;
     assert_eq!(rt; back.ip, 98);
@@ -281,7 +281,7 @@ fn errs(rt: HostRuntime) -> Result<(), Fail> {
 fn copies(rt: HostRuntime) -> Result<(), Fail> {
     let alloc = rt.alloc();
     let daughter = Some(Block { at: 50, size: 10 });
-    // ax; whether it copies, and moved after it, where it was 3
+    // ax; whether it copies; and moved afterwards, if it was 3 before
     let rows = [
         (50, true, 4),
         (59, true, 4),

@@ -18,11 +18,11 @@ OnHalt next.Halt P = P
 abbrev pub run_bank : SetupFields → ℕ → List GroupFields
 run_bank setup n = bank setup (n + 1)
 
--- they come in it from place k on
+-- the groups are the next ones of the run's genebank, from place k on
 abbrev pub AreNext : SetupFields → ℕ → ℕ → List GroupFields → Type 0
 AreNext setup n k groups = groups ≡ take (length groups) (drop k (run_bank setup n))
 
--- the hand took more, and halted or not
+-- the hand has halted exactly where the answer is Halt
 abbrev pub HaltsBy : Next → ℕ → Type 0
 HaltsBy next.Go halts = halts ≡ 0
 HaltsBy next.Halt halts = 0 < halts
@@ -34,7 +34,8 @@ pub record IsUnhalted (run : SetupFields × ℕ) (setup : SetupFields) (quanta d
   pub within : done ≤ length (run_bank setup quanta)
   pub can : Can
 
--- The hand was given groups until this came of it. That it is the same hand at a later time is the last fact.
+-- What holds of a hand once worker 1 has given it groups: `next` says whether it halted, and `later` that it is the
+-- same hand at a later time.
 pub record WasLed (next : Next) (old_setup new_setup : SetupFields) (old_quanta new_quanta new_done new_halts : ℕ)
     (Can Goes : Type 0) : Type 0 where
   pub setup : new_setup ≡ old_setup

@@ -1,4 +1,4 @@
-//! A run by one worker, or what is left of it when the others have ended.
+//! A run by one worker, or the rest of a run when the other workers have ended.
 
 ghost use Rattle.std.specs.Prelude.{◌≡◌, ◌<◌, ◌≤◌, IfOk, length, true};
 ghost use Rattle.crew.specs.Hand.{IsUnhalted, run_bank};
@@ -12,8 +12,8 @@ use commit_book::{Book, Gate};
 use std::alloc::Global;
 use tierra_model::OutOfMemory;
 
-/// Runs a book to its end as one worker alone, for whom the world stays as it is while a job runs: so each quantum is run in
-/// the world itself. The groups are handed over as they come.
+/// Runs a book to its end with one worker. As nobody else changes the world, each quantum is run in the world itself.
+/// The groups are handed over as they come.
 pub(crate) fn run_alone<G: Gate, H: Hand>(alloc: Global, book: Book, gate: &G, hand: &mut H) -> Ran
     requires hand { IsUnhalted (book.setup, book.quanta) (H.setup hand.old) (H.quanta hand.old)
         (H.done hand.old) (H.halts hand.old) (H.can_put hand.old) }
@@ -21,8 +21,7 @@ pub(crate) fn run_alone<G: Gate, H: Hand>(alloc: Global, book: Book, gate: &G, h
     ensures all_put { IfEnded result (λ b. H.done hand.new ≡ length (run_bank book.setup book.quanta)) }
     ensures halted { IfHalted result (λ b. (b.setup ≡ book.setup) × (b.quanta ≡ book.quanta) × (b.stopped ≡ true)) }
     ensures halts { HaltsAsIn result (H.halts hand.new) }
-    ensures setup { H.setup hand.new ≡ H.setup hand.old }
-    ensures quanta { H.quanta hand.new ≡ H.quanta hand.old }
+    ensures run { (H.setup hand.new ≡ H.setup hand.old) × (H.quanta hand.new ≡ H.quanta hand.old) }
     ensures later { H.goes_to hand.old hand.new }
 {
     let mut book = book;
@@ -39,7 +38,7 @@ pub(crate) fn run_alone<G: Gate, H: Hand>(alloc: Global, book: Book, gate: &G, h
     hand_rest(alloc, book, hand)
 }
 
-// Runs and commits quanta, one at least where some are left, until one saves a genotype or all are committed.
+// Runs and commits quanta until one saves a genotype or all are committed; at least one, where some are left.
 fn work_on<G: Gate>(alloc: Global, book: Book, gate: &G) -> Result<Book, OutOfMemory>
     ensures run { IfOk result (λ b. (b.setup ≡ book.setup) × (b.quanta ≡ book.quanta)) }
     ensures more { IfOk result (λ b. book.committed < book.quanta → book.committed < b.committed) }
@@ -49,7 +48,7 @@ fn work_on<G: Gate>(alloc: Global, book: Book, gate: &G) -> Result<Book, OutOfMe
     Ok(worked)
 }
 
-// Hands over all groups that are left, of a book that has committed all.
+// Hands over all groups that are left, where the book has committed all its quanta.
 fn hand_rest<H: Hand>(alloc: Global, book: Book, hand: &mut H) -> Ran
     requires all { book.committed ≡ book.quanta }
     requires hand { IsUnhalted (book.setup, book.quanta) (H.setup hand.old) (H.quanta hand.old)
@@ -58,8 +57,7 @@ fn hand_rest<H: Hand>(alloc: Global, book: Book, hand: &mut H) -> Ran
     ensures all_put { IfEnded result (λ b. H.done hand.new ≡ length (run_bank book.setup book.quanta)) }
     ensures halted { IfHalted result (λ b. b ≡ record book { stopped = true }) }
     ensures halts { HaltsAsIn result (H.halts hand.new) }
-    ensures setup { H.setup hand.new ≡ H.setup hand.old }
-    ensures quanta { H.quanta hand.new ≡ H.quanta hand.old }
+    ensures run { (H.setup hand.new ≡ H.setup hand.old) × (H.quanta hand.new ≡ H.quanta hand.old) }
     ensures later { H.goes_to hand.old hand.new }
 {
     let Ok(groups) = new_groups(alloc, &book, hand.done()) else {

@@ -19,8 +19,8 @@ pub(crate) fn new_groups(alloc: Global, book: &Book, done: u64) -> Result<Groups
     book.groups_from(alloc, done)
 }
 
-// The same, where the world has saved more than `kept` genotypes, and there is memory for them. Then `kept` is how many
-// it has saved.
+// The same groups, where the world has saved more than `kept` genotypes and there is memory for them. Then `kept`
+// becomes the number that it has saved.
 pub(crate) fn groups_since(alloc: Global, book: &Book, done: u64, kept: &mut u64) -> Option<Groups>
     ensures { IfSome result (AreNext book.now.setup book.now.quanta done) }
 {

@@ -2,7 +2,7 @@
 
 ghost use Rattle.std.specs.Prelude.{◌≡◌, ◌+◌, ◌<◌, ◌≤◌, ◌^◌, IfSome, length};
 ghost use Rattle.tierra_model.specs.declared.limits.TheConstants.{MOST_QUANTA};
-ghost use Rattle.crew.specs.Hand.{AreNext, HaltsBy, run_bank};
+ghost use Rattle.crew.specs.Hand.{AreNext, WasLed, run_bank};
 ghost use Rattle.crew.specs.Works.{HasWorked};
 
 use crate::hand::{Hand, Next};
@@ -25,7 +25,7 @@ struct LeadTurned {
     groups: Option<Groups>,
 }
 
-// Takes a turn, in which a finding is offered and a job claimed. The groups from place `done` on come with it, where
+// Takes a turn, in which a finding is offered and a job claimed. Gives the groups from place `done` on as well, where
 // the world has saved more than `kept` genotypes.
 fn lead_turn<R: Wait>(
     rt: &R,
@@ -67,7 +67,7 @@ fn stop<R: Wait>(rt: &R, lock: &TurnLock<Book>, seat: Seat) -> Seat
     lock.give(turn, book)
 }
 
-// What worker 1 comes to.
+// What worker 1 leaves: its seat, and whether the hand halted.
 #[derive(Drop)]
 pub(crate) struct Led {
     pub seat: Seat,
@@ -120,12 +120,8 @@ pub(crate) fn lead<R: Wait, G: Gate, H: Hand>(
     requires setup { lock.now.opening.setup ≡ (H.setup hand.old, H.quanta hand.old) }
     requires within { H.done hand.old ≤ length (run_bank (H.setup hand.old) (H.quanta hand.old)) }
     ensures worked { HasWorked 8000004 seat result.seat }
-    ensures setup { H.setup hand.new ≡ H.setup hand.old }
-    ensures quanta { H.quanta hand.new ≡ H.quanta hand.old }
-    ensures halts { HaltsBy result.next (H.halts hand.new) }
-    ensures within { H.halts hand.new ≡ 0 → H.done hand.new ≤ length (run_bank (H.setup hand.new) (H.quanta hand.new)) }
-    ensures can { H.halts hand.new ≡ 0 → H.can_put hand.new }
-    ensures later { H.goes_to hand.old hand.new }
+    ensures hand { WasLed result.next (H.setup hand.old) (H.setup hand.new) (H.quanta hand.old) (H.quanta hand.new)
+        (H.done hand.new) (H.halts hand.new) (H.can_put hand.new) (H.goes_to hand.old hand.new) }
 {
     let mut workspace = Workspace::new(alloc);
     let mut kept = 0;

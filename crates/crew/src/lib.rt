@@ -1,5 +1,5 @@
-//! Several workers run coming quanta ahead, and a book commits what they find in slicer order. One worker alone has the
-//! book run them in its own world.
+//! Several workers run the coming quanta in advance, and a book commits what they find in slicer order. One worker
+//! alone has the book run them in its own world.
 //!
 //! The calling thread is worker 1. Between its turns it hands over the groups of the genebank that are new. When the
 //! other workers have ended, it finishes the run by itself.

@@ -19,7 +19,7 @@ use std::thread::{Threads, join_mut};
 use tierra_model::OutOfMemory;
 use turn_lock::{Seat, TurnLock};
 
-/// What came of a run.
+/// How a run ended.
 #[derive(Drop)]
 pub enum Ran {
     /// All quanta are committed, and all groups were handed over.
@@ -48,7 +48,7 @@ fn work_with<R: Wait, G: Gate>(
     work_while(rt, alloc, lock, seat, gate, trial)
 }
 
-/// A seat for the next caller, split off from that of worker 1.
+/// A seat for the next caller, split off from the seat of worker 1.
 pub fn seat_for(lock: &TurnLock<Book>, first: &mut Seat, caller: u32) -> Result<Seat, OutOfMemory>
     requires first { IsFirst lock.now caller first.old }
     requires callers { (2 ≤ caller) × (caller ≤ MOST_WORKERS) }
@@ -59,7 +59,7 @@ pub fn seat_for(lock: &TurnLock<Book>, first: &mut Seat, caller: u32) -> Result<
     lock.split(first, caller)
 }
 
-// Worker 1, and the workers from `caller` on.
+// Runs worker 1 and the workers from `caller` on.
 fn crew_from<R: Threads + Wait + Sync, G: Gate + Sync, H: Hand>(
     rt: &R,
     alloc: Global,
@@ -147,13 +147,12 @@ pub fn run_crew<R: Threads + Wait + Sync, G: Gate + Sync, H: Hand>(
     ensures ended { IfEnded result (λ b. (b.setup ≡ book.setup) × (b.quanta ≡ book.quanta) × (b.committed ≡ b.quanta)) }
     ensures all_put { IfEnded result (λ b. H.done hand.new ≡ length (run_bank book.setup book.quanta)) }
 
-    // It is halted exactly where the hand halted.
+    // The answer is Halted exactly where the hand halted.
     ensures halted { IfHalted result (λ b. (b.setup ≡ book.setup) × (b.quanta ≡ book.quanta) × (b.stopped ≡ true)) }
     ensures halts { HaltsAsIn result (H.halts hand.new) }
 
     // The hand is the one handed in, at a later time.
-    ensures setup { H.setup hand.new ≡ H.setup hand.old }
-    ensures quanta { H.quanta hand.new ≡ H.quanta hand.old }
+    ensures run { (H.setup hand.new ≡ H.setup hand.old) × (H.quanta hand.new ≡ H.quanta hand.old) }
     ensures later { H.goes_to hand.old hand.new }
 {
     let _committed = book.committed();

@@ -63,7 +63,7 @@ fn counted_serve<L: Ledger>(
     next_job(alloc, book, by, &mut steps)
 }
 
-// The next job. Where as many are out as may be, quanta are committed until there is one.
+// The next job. Where as many jobs are handed out as may be, quanta are committed until there is one.
 fn next_job<L: Ledger>(alloc: Global, book: &mut Book, by: u32, steps: &mut Steps<L>) -> Option<Job>
     requires by { (1 ≤ by) × (by ≤ MOST_WORKERS) }
     ensures { MayGive by book.old book.new }

@@ -52,7 +52,7 @@ pub fn work<R: Wait, G: Gate>(
     work_while(rt, alloc, lock, seat, gate, &Trial::passed())
 }
 
-/// The same, until the trial ends it too.
+/// Does the same, but also ends where the trial has failed.
 pub(crate) fn work_while<R: Wait, G: Gate>(
     rt: &R,
     alloc: Global,

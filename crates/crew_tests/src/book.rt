@@ -1,4 +1,4 @@
-//! A book hands out jobs, and stands behind the turn lock.
+//! A book hands out jobs, and is shared by a turn lock.
 
 ghost use Rattle.std.specs.Prelude.{◌≡◌, ◌^◌, ◌<◌, ℕ, IsSome};
 ghost use Rattle.turn_lock.specs.Seat.{own_of};
@@ -44,7 +44,7 @@ fn a_book_hands_out_jobs(rt: HostRuntime) -> Result<(), Fail> {
     counted::<_, Brand>(&rt, rt.alloc(), Blank::new(1))
 }
 
-// One quantum is committed.
+// Takes a turn, and commits one quantum in it.
 fn advance_once<R: Wait, L: Ledger>(
     rt: &R,
     alloc: Global,
@@ -94,7 +94,7 @@ fn each_caller_advances_the_book_once(rt: HostRuntime) -> Result<(), Fail> {
     two_callers::<_, Brand>(&rt, rt.alloc(), Blank::new(1))
 }
 
-// A finding is offered, and a job claimed.
+// Takes a turn, in which a finding is offered and a job claimed.
 fn offer_and_claim<R: Wait, L: Ledger>(
     rt: &R,
     alloc: Global,

@@ -19,7 +19,7 @@ use tierra_model::{Name, OutOfMemory, Text};
 use turn_lock::{Seat, TurnLock};
 use world_core::World;
 
-/// Four genotypes, of which the first and the third die in quantum 2.
+/// Four genotypes; the first and the third die in quantum 2.
 const HALVED: &str = r#"
 soup_size = 100
 dist_every = 2
@@ -38,7 +38,7 @@ at = 30
 code = "dec_c"
 "#;
 
-/// Two genotypes with two creatures each, of whom one each dies in quantum 1.
+/// Two genotypes with two creatures each; one creature of each dies in quantum 1.
 const PAIRS: &str = r#"
 soup_size = 100
 dist_every = 1
@@ -61,7 +61,7 @@ fn seen(alloc: Global, world: &World) -> Result<Sight, OutOfMemory> {
     sight_of(alloc, world)
 }
 
-/// The world after so many quanta of a soup file.
+/// The world after this many quanta of a soup file.
 fn world_after(alloc: Global, file: &str, quanta: u16) -> Result<World, Fail> {
     Ok(run_serial(alloc, &setup_of(alloc, file)?, u64::from(quanta))?)
 }
@@ -78,7 +78,7 @@ fn told_alone(alloc: Global, sight: Sight) -> Result<Text, OutOfMemory> {
     text_of(alloc, &sights)
 }
 
-/// What is told of the world after so many quanta.
+/// What is told of the world after this many quanta.
 fn told(alloc: Global, file: &str, quanta: u16) -> Result<Text, Fail> {
     let world = world_after(alloc, file, quanta)?;
     Ok(told_alone(alloc, seen(alloc, &world)?)?)
@@ -135,7 +135,7 @@ fn sights_are_told(rt: HostRuntime) -> Result<(), Fail> {
     Ok(())
 }
 
-// One quantum is committed.
+// Takes a turn, and commits one quantum in it.
 fn advance_once<R: Wait, L: Ledger>(
     rt: &R,
     alloc: Global,
@@ -154,7 +154,7 @@ fn advance_once<R: Wait, L: Ledger>(
     lock.give(turn, book)
 }
 
-// A look, whose sight is kept.
+// Looks, and adds the sight to `sights`.
 fn look_again<R: Wait>(
     rt: &R,
     alloc: Global,
@@ -176,7 +176,7 @@ fn look_again<R: Wait>(
     Ok(seat)
 }
 
-// Looks before and after a quantum is committed, and once more when the worker's seat was joined after the next.
+// Looks before and after a quantum is committed, and once more after the next one, with the worker's seat joined.
 fn look_thrice<R: Wait, L: Ledger>(
     rt: &R,
     alloc: Global,

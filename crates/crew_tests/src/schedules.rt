@@ -40,7 +40,7 @@ fn moves_of(alloc: Global, text: &str) -> Result<MoveList, OutOfMemory>
     Ok(MoveList { items })
 }
 
-/// The moves over so many quanta of a soup file.
+/// The moves over this many quanta of a soup file.
 fn played(alloc: Global, file: &str, quanta: u64, moves: &str) -> Result<Played, Fail>
     requires { (1 ≤ quanta) × (quanta ≤ 2) }
 {
@@ -58,7 +58,7 @@ fn bytes_of(alloc: Global, world: &World) -> Result<Vec<u8>, OutOfMemory> {
     Ok(world.state_bytes(alloc)?.items)
 }
 
-/// Whether the world of a book is that of the serial run.
+/// Whether the world of a book is the serial run's.
 fn is_serial(alloc: Global, book: &Book) -> Result<bool, Fail> {
     let drilled = bytes_of(alloc, book.world())?;
     let serial = bytes_of(alloc, &serial_world(alloc)?)?;
@@ -100,8 +100,8 @@ fn schedules_by_hand(rt: HostRuntime) -> Result<(), Fail> {
     Ok(())
 }
 
-/// In one slice creature 1 takes a block, copies, errs, gives the block up, lets creature 2 die for a greater one, copies
-/// and breeds.
+/// In one slice creature 1 takes a block, copies, errs, gives the block up, kills creature 2 to take a larger one,
+/// copies and breeds.
 const EACH_EVENT: &str = r#"
 soup_size = 100
 slice_size = 14
@@ -125,7 +125,7 @@ at = 0
 code = "nop_1 mov_iab jmpb nop_0 zero"
 "#;
 
-/// The births, the deaths, the cells that are owned, and the address of the front creature.
+/// The births, the deaths, the cells that are owned, and the instruction pointer of the front creature.
 fn counts_of(world: &World) -> [u64; 4] {
     let ip = u64::from(world.front().ip);
     [
@@ -148,7 +148,7 @@ fn cells_of(alloc: Global, world: &World) -> Result<Vec<(u32, u8)>, OutOfMemory>
     Ok(cells)
 }
 
-/// The reaper queue, and the errors of each.
+/// The creatures in the reaper queue, each with its errors.
 fn queue_of(alloc: Global, world: &World) -> Result<Vec<(u64, u64)>, OutOfMemory> {
     let mut queue = Vec::new(alloc);
     for place in 0..world.yard_len() {
@@ -174,13 +174,13 @@ fn looks_of(alloc: Global, world: &World) -> Result<Looks, OutOfMemory> {
     })
 }
 
-/// What is committed of the first quantum of a soup file.
+/// What the world of a soup file has after its first quantum, played with these moves.
 fn committed(alloc: Global, file: &str, moves: &str) -> Result<Looks, Fail> {
     let played = played(alloc, file, 1, moves)?;
     Ok(looks_of(alloc, played.book.world())?)
 }
 
-// The quantum is run by the hand, or by the book.
+// The quantum is run by the book where there are no moves, and otherwise by hand 1.
 #[test]
 fn a_quantum_of_each_event_is_committed(rt: HostRuntime) -> Result<(), Fail> {
     let alloc = rt.alloc();

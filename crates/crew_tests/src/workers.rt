@@ -14,7 +14,7 @@ use std::thread::{Threads, yield_now};
 use test_soups::{TWO, setup_of};
 use tierra_model::{Groups, How, Setup};
 
-// Counts the groups and the calls, and halts at the first groups where it is to.
+// Counts the groups, or halts at the first ones where `is_to_halt`.
 #[derive(Drop)]
 struct CountHand {
     setup: Snapshot<Setup>,
@@ -60,10 +60,10 @@ impl Hand for CountHand {
     ghost goes_on = { λ a b c p q. tt };
 }
 
-// Holds the first `before` of the run until an `after` of another worker came, for at most 50,000,000 turns.
+// Holds the worker of the run's first `before` until another worker calls `after`, for at most 50,000,000 turns.
 #[derive(Drop)]
 struct HoldGate {
-    // The worker that is held first, and 0 before.
+    // The worker that is held, or 0 as long as there was none.
     held: AtomicU64,
     others_offered: AtomicBool,
     is_limit_met: AtomicBool,
@@ -106,7 +106,7 @@ impl Gate for HoldGate {
     }
 }
 
-// Counts the calls, and those of other workers than the first before a job. It waits for nobody.
+// Counts the calls, and the calls of `before` by workers other than worker 1. It holds nobody.
 #[derive(Drop)]
 struct CountGate {
     befores: AtomicU64,

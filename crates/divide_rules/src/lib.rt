@@ -6,8 +6,8 @@ ghost use Rattle.tierra_model.specs.Step.{mal_request, may_divide};
 
 use tierra_model::{Block, Settings};
 
-/// The number of cells that `mal` is to give to a creature of `size` cells whose register cx is `cx`. None is an
-/// error of the instruction: the number lies below `min_cell`, or above `max_cell` or `mal_mult` times the size.
+/// The number of cells that `mal` is to give to a creature of `size` cells whose register cx is `cx`. `None` is an
+/// error of the instruction: the number is below `min_cell`, or above `max_cell` or `mal_mult` times the size.
 pub fn mal_bounds(cx: i32, size: u32, settings: &Settings) -> Option<u32>
     ensures { result ≡ mal_request settings.now size cx }
 {

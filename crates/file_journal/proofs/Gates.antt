@@ -68,7 +68,7 @@ pub staged_inside : (at : ℕ) (piece file : List ℕ) → IsStaged at piece fil
 staged_inside at piece file s =
     omega (arith, ap length s.text, length-append (take at file) (s.gate ∷ (piece ++ 0 ∷ s.rest)), staged_len at piece file s)
 
--- an open gate, the record and a closed gate behind it
+-- an open gate, the record and a closed gate after it
 after : (front piece rest image : List ℕ) → image ≡ front ++ 1 ∷ (piece ++ 0 ∷ rest) → ClosesAfter (front ++ 1 ∷ piece) image
 after front piece rest image text = record {
   gate = 0;
@@ -77,7 +77,7 @@ after front piece rest image text = record {
   closed = λ e. omega (arith, e);
 }
 
--- in each outcome of the second write the record stands whole behind its gate
+-- in each outcome of the second write the record stands whole after its gate
 pub gate_torn : (at : ℕ) (piece file image : List ℕ) → IsStaged at piece file → Torn at 1 file image
     → IsBeforeOrAfter at piece file image
 gate_torn at piece file image s torn =

@@ -15,7 +15,7 @@ short_torn title file image short torn = inl (omega (arith, torn.no_longer))
 pub short_written : (file : List ℕ) → IsBlank (spliced file 0 (0 ∷ []))
 short_written file = (refl, omega (arith, length-append (0 ∷ []) (drop 1 file)))
 
--- behind a first byte of 0: it stays 0
+-- after a first byte of 0: it stays 0
 pub blank_torn : (title file image : List ℕ) (n : ℕ) → IsBlank file → Torn 1 n file image → IsFresh title image
 blank_torn title file image n blank torn =
     let front : take 1 image ≡ take 1 file = torn.before in
@@ -30,7 +30,7 @@ begun_front title file len begun long =
     let first = first_and file (omega (arith, long)) in
     ap (take 12) first ∙ ap (λ (l : List ℕ). get_or file 0 0 ∷ l) begun.others
 
--- they stay in front of what is written behind the title
+-- they stay in front of what is written after the title
 pub begun_torn : (title file image : List ℕ) (n : ℕ) → length title ≡ 12 → IsBegun title file → 45 ≤ length file
     → Torn 12 n file image → IsFresh title image
 begun_torn title file image n len begun long torn =

@@ -112,7 +112,7 @@ pub IsDiskCall-weaker : {T E : Type 0} {old new : DeskState} {result : Result T 
     → ((image : List ℕ) → P image → Q image) → IsDiskCall old new result P → IsDiskCall old new result Q
 IsDiskCall-weaker weaker call = record { uses = UsesDisk-weaker weaker call.uses; ok = call.ok; err = call.err }
 
--- a call behind others
+-- a call after others
 pub IsDiskCall-then : {T E : Type 0} {old mid new : DeskState} {result : Result T E} {P : List ℕ → Type 0}
     → UsesDisk old mid P → IsDiskCall mid new result P → IsDiskCall old new result P
 IsDiskCall-then first call = record { uses = UsesDisk-then first call.uses; ok = call.ok; err = call.err }
@@ -152,7 +152,7 @@ pub told_before : (old mid : DeskState) (P Q R : List ℕ → List ℕ → Type 
 told_before old mid P Q R step b image =
     before_has old.reads mid.reads P Q R image (λ file between p q. step file between image p q) b.has
 
--- one call behind another
+-- one call after another
 pub call_then : {T E : Type 0} {result : Result T E} (old mid new : DeskState) (P Q R S : List ℕ → List ℕ → Type 0)
     → Becomes old mid P → ((file image : List ℕ) → Q file image → S file image)
     → ((file between image : List ℕ) → P file between → R between image → S file image)

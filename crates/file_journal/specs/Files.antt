@@ -1,4 +1,4 @@
--- What the bytes of a file of records are: a header, records behind open gates, and a closed gate.
+-- What the bytes of a file of records are: a header, records after open gates, and a closed gate.
 use Rattle.std.specs.Prelude.{◌≡◌, ◌≢◌, ◌⊎◌, ℕ, ◌<◌, ◌≤◌, List, ◌∷◌, ◌++◌, drop, length, slice_index, take}
 use Rattle.file_journal.specs.declared.header.Header.{Header}
 
@@ -6,7 +6,7 @@ use Rattle.file_journal.specs.declared.header.Header.{Header}
 abbrev pub IsTitle : List ℕ → Type 0
 IsTitle title = 0 < slice_index title 0
 
--- a header in the making, of which the first byte is written last
+-- a header that is not finished: the first byte of the title is written last
 pub record IsBegun (title image : List ℕ) : Type 0 where
   pub first : slice_index image 0 ≢ slice_index title 0
   pub others : take 11 (drop 1 image) ≡ drop 1 title
@@ -42,7 +42,7 @@ pub record ClosesAfter (front image : List ℕ) : Type 0 where
 abbrev pub IsClosedAt : ℕ → List ℕ → Type 0
 IsClosedAt at image = ClosesAfter (take at image) image
 
--- the bytes in front of the gate, and the record behind it, opened
+-- the bytes before the gate, the gate opened, and the record
 abbrev pub with_record : ℕ → List ℕ → List ℕ → List ℕ
 with_record at piece file = take at file ++ 1 ∷ piece
 
@@ -51,13 +51,13 @@ abbrev pub IsBeforeOrAfter : ℕ → List ℕ → List ℕ → List ℕ → Type
 IsBeforeOrAfter at piece file image =
     ClosesAfter (take at file) image ⊎ ClosesAfter (with_record at piece file) image
 
--- behind a closed gate stand the record and a closed gate
+-- at the place are a closed gate, the record and another closed gate
 pub record IsStaged (at : ℕ) (piece now : List ℕ) : Type 0 where
   pub gate : ℕ
   pub rest : List ℕ
   pub text : now ≡ take at now ++ gate ∷ (piece ++ 0 ∷ rest)
   pub closed : gate ≢ 1
 
--- so it is in the one file, which is the other one up to the gate
+-- the record is staged in the file now, which is the old file up to the gate
 abbrev pub Stages : ℕ → List ℕ → List ℕ → List ℕ → Type 0
 Stages at piece file now = (take at now ≡ take at file) × IsStaged at piece now

@@ -1,4 +1,4 @@
-//! A file that gets a header.
+//! Giving a file its header.
 
 ghost use Rattle.std.specs.Prelude.{◌≡◌, ◌<◌, ◌≤◌, IfSome, OnOk, length, take};
 ghost use Rattle.desk_io.specs.Desk.{IsDiskCall, IsSettled};
@@ -53,7 +53,7 @@ fn blank<D: Desk>(desk: &mut D, header: &Header) -> Result<(), DiskFailed>
     put(desk, 0, &[0])
 }
 
-// Writes a header behind its first byte, which is 0.
+// Writes a header after its first byte, which is 0.
 fn fill_blank<D: Desk>(desk: &mut D, header: &Header, bytes: &[u8]) -> Result<(), DiskFailed>
     requires settled { IsSettled (D.state desk.old) }
     requires title { IsTitle header.now.title }
@@ -67,7 +67,7 @@ fn fill_blank<D: Desk>(desk: &mut D, header: &Header, bytes: &[u8]) -> Result<()
     put(desk, 1, after(bytes, 1))
 }
 
-// Writes a header behind its title, of which all but the first byte stands.
+// Writes the rest of a header after its title, where all of the title but its first byte is written.
 fn fill_begun<D: Desk>(desk: &mut D, header: &Header, bytes: &[u8]) -> Result<(), DiskFailed>
     requires settled { IsSettled (D.state desk.old) }
     requires bytes { bytes.now ≡ header_bytes header.now }
@@ -118,7 +118,7 @@ fn finish<D: Desk>(desk: &mut D, header: &Header, bytes: &[u8]) -> Result<(), Di
     put(desk, 0, first(bytes))
 }
 
-/// Gives a file a header, and no records. At each moment it has none.
+/// Gives a file a header, and no records. It has no records at any moment meanwhile either.
 pub fn create<D: Desk>(
     desk: &mut D,
     stage: Stage,

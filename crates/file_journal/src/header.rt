@@ -1,4 +1,4 @@
-//! The header of a file, and what a file is by it.
+//! The header of a file, and what it tells of the file.
 
 ghost use Rattle.std.specs.Prelude.{◌≡◌, ◌≤◌, ◌↔◌, IfOk, IsTrue, drop, length, take};
 ghost use Rattle.file_journal.specs.Creating.{header_bytes};
@@ -6,7 +6,7 @@ ghost use Rattle.file_journal.specs.Files.{IsBegun, IsFresh};
 
 use std::alloc::{AllocError, Global};
 
-/// The bytes of a header: the title, the digest and the gate of record 0.
+/// How many bytes a header has: the title, the digest and the gate of record 0.
 pub const HEADER_LEN: usize = 45;
 
 /// How a file begins: the title of its kind, and the digest of what it belongs to.
@@ -17,7 +17,7 @@ pub struct Header {
 }
 
 impl Header {
-    // The title, which is followed by the digest.
+    // How many bytes the title and the digest have.
     pub(crate) fn parts_len(&self) -> usize
         ensures title { length self.now.title ≡ 12 }
         ensures digest { length self.now.digest ≡ 32 }
@@ -26,7 +26,7 @@ impl Header {
         self.title.len() + self.digest.len()
     }
 
-    // Its bytes, with the closed gate of record 0.
+    // The header's bytes, with the closed gate of record 0.
     pub(crate) fn to_bytes(&self, alloc: Global) -> Result<Vec<u8>, AllocError>
         ensures { IfOk result (λ v. v.items ≡ header_bytes self.now) }
     {
@@ -38,7 +38,7 @@ impl Header {
     }
 }
 
-// The bytes after so many.
+// The bytes from a place on.
 pub(crate) fn after(bytes: &[u8], len: usize) -> &[u8]
     requires { len ≤ length bytes.now }
     ensures { result.now ≡ drop len bytes.now }
@@ -46,7 +46,7 @@ pub(crate) fn after(bytes: &[u8], len: usize) -> &[u8]
     &bytes[len..]
 }
 
-// Whether the bytes are those of a title but for its first byte.
+// Whether the file has all of the title except its first byte.
 fn is_begun(title: &[u8; 12], image: &[u8]) -> bool
     requires { 45 ≤ length image.now }
     ensures { IsTrue result ↔ IsBegun title.now image.now }
@@ -55,8 +55,8 @@ fn is_begun(title: &[u8; 12], image: &[u8]) -> bool
     image[0] != title[0] && &image[1..12] == others
 }
 
-/// Whether no file with this title was made yet: it is too short for a header, begins with 0, or has a header in the
-/// making.
+/// Whether no file with this title was made yet: it is too short for a header, begins with 0, or has a header
+/// that is not finished.
 pub fn is_fresh(title: &[u8; 12], image: &[u8]) -> bool
     ensures { IsTrue result ↔ IsFresh title.now image.now }
 {

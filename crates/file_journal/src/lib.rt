@@ -1,4 +1,4 @@
-//! A file of records behind gates: it is made in stages, and gets one record after the other. A crash at any moment
+//! A file of records, each after a gate: it is made in stages, and gets one record after another. A crash at any moment
 //! leaves the records from before a call or those from after it.
 #![tactic(auto)]
 

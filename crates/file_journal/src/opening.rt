@@ -1,4 +1,4 @@
-//! A file that is opened.
+//! Opening a file.
 
 ghost use Rattle.std.specs.Prelude.{◌≡◌, ◌≤◌, IfNone, IfOk, IfSome, OnOk, false, length, true};
 ghost use Rattle.desk_io.specs.Desk.{HasNoFault, IsSettled, UsesDisk};
@@ -34,7 +34,7 @@ fn make<D: Desk>(
     Ok(())
 }
 
-// Gives the file a header where what was read of it is fresh.
+// Gives the file a header if what was read of it is fresh.
 fn make_fresh<D: Desk>(
     alloc: Global,
     desk: &mut D,
@@ -73,7 +73,7 @@ pub fn open<D: Desk>(
     ensures found { IfOk result (λ o. IfSome o
         (λ image. IsFound header.now.title image.items (D.state desk.old) (D.state desk.new))) }
 
-    // Whatever comes, a file that is not fresh is not written at any moment.
+    // Whatever the result, a file that is not fresh is never written.
     ensures quiet { IfSome (D.state desk.old).reads (λ file. (IsFresh header.now.title file → ⊥)
         → UsesDisk (D.state desk.old) (D.state desk.new) (D.state desk.old).may_leave) }
     ensures moments { UsesDisk (D.state desk.old) (D.state desk.new)

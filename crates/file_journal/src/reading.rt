@@ -30,7 +30,7 @@ fn read_pieces<D: Desk>(desk: &mut D, bytes: &mut [u8]) -> Result<(), DiskFailed
     Ok(())
 }
 
-/// The whole file, or none where it is too short for a header.
+/// The whole file, or `None` if it is too short for a header.
 pub fn read_file<D: Desk>(alloc: Global, desk: &mut D) -> Result<Option<Vec<u8>>, FileFault>
     requires sound { HasNoFault (D.state desk.old) }
     ensures read { IfOk result (λ o. IsReadOf o (D.state desk.old)) }
@@ -47,7 +47,7 @@ pub fn read_file<D: Desk>(alloc: Global, desk: &mut D) -> Result<Option<Vec<u8>>
     Ok(Some(bytes))
 }
 
-/// The whole file, after what was written of it was made durable.
+/// Makes what was written of the file durable, and gives the whole file.
 pub fn load<D: Desk>(alloc: Global, desk: &mut D) -> Result<Option<Vec<u8>>, FileFault>
     requires sound { HasNoFault (D.state desk.old) }
     ensures read { IfOk result (λ o. IsReadOf o (D.state desk.old)) }

@@ -1,11 +1,11 @@
-//! What is written of a record.
+//! A record in the form in which it is written.
 
 ghost use Rattle.std.specs.Prelude.{◌≡◌, ◌++◌, [], ◌∷◌, IfOk, length};
 
 use std::alloc::AllocError;
 use std::marker::Model;
 
-/// A record as it is written: with the closed gate behind it. Contracts see the bytes of the record alone.
+/// A record as it is written, with a closed gate after it. Contracts see the bytes of the record alone.
 #[derive(Debug, Drop)]
 pub struct Room {
     bytes: Vec<u8>,
@@ -31,7 +31,7 @@ impl Room {
         Ok(Room { bytes })
     }
 
-    // The bytes of the record and the closed gate behind it.
+    // The bytes of the record and the closed gate after it.
     pub(crate) fn bytes(&self) -> &[u8]
         ensures { result.now ≡ self.now ++ 0 ∷ [] }
     {

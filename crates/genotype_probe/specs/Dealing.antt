@@ -10,7 +10,7 @@ abbrev pub IsPart : List Saved → ℕ → ℕ → ℕ → List Efforts → Type
 IsPart saved n first step part =
     (i : ℕ) (s : Saved) → slice_get saved (first + step * i) ≡ Some s → slice_get part i ≡ Some (probe s.code n)
 
--- the parts of the workers from first on, up to the one before last
+-- the parts of the workers from `first` to below `last`
 pub record AreParts (saved : List Saved) (n first last step : ℕ) (parts : List (Vec Efforts)) : Type 0 where
   pub count : length parts ≡ last - first
   pub each : (k : ℕ) (part : Vec Efforts) → slice_get parts k ≡ Some part → IsPart saved n (first + k) step part.items

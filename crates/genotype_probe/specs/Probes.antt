@@ -23,6 +23,6 @@ saved_of groups = flat_map (λ g. g.saved) groups
 abbrev pub probe_all : List GroupFields → ℕ → List Efforts
 probe_all groups n = map (λ s. probe s.code n) (saved_of groups)
 
--- its code is that of a creature
+-- its code is one that a creature may have
 abbrev pub HasCode : Saved → Type 0
 HasCode s = IsCode s.code

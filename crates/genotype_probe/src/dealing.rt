@@ -47,7 +47,7 @@ fn joined(
     Ok(all)
 }
 
-// The parts of the workers from `first` on, up to the one before `last`, each on a thread.
+// The parts of the workers from `first` to below `last`, each on a thread.
 #[tactic(auto, using(crate::proofs::Parts::joined_parts))]
 fn parts_from<R: Threads + Sync>(
     rt: &R,
@@ -86,7 +86,7 @@ fn parts_from<R: Threads + Sync>(
     joined(theirs?, ours?)
 }
 
-// The probe of the genotype at a place, which one of the parts has.
+// The probe of the genotype at a place, from the part that has it.
 fn dealt(parts: &[Vec<Efforts>], saved: &[Saved], n: u64, place: usize) -> Efforts
     requires place { place < length saved.now }
     requires parts { AreParts saved.now n 0 (length parts.now) (length parts.now) parts.now }
@@ -117,7 +117,7 @@ fn gathered(
     Ok(all)
 }
 
-/// The probes of the genotypes in order, dealt to so many workers.
+/// The probes of the genotypes in order, dealt to this many workers.
 pub(crate) fn probe_dealt<R: Threads + Sync>(
     rt: &R,
     alloc: Global,

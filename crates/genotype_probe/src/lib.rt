@@ -6,7 +6,7 @@ mod dealing;
 mod tests;
 mod text;
 
-ghost use Rattle.std.specs.Prelude.{◌≡◌, ◌++◌, ◌<◌, ◌≤◌, All, IfOk, OnOk, map};
+ghost use Rattle.std.specs.Prelude.{◌≡◌, ◌++◌, ◌<◌, ◌≤◌, All, IfOk, OnOk};
 ghost use Rattle.tierra_model.specs.declared.limits.TheConstants.{MOST_QUANTA, MOST_WORKERS};
 ghost use Rattle.tierra_model.specs.Ranges.{IsCode};
 ghost use Rattle.tierra_model.specs.World.{genotype_at};
@@ -72,7 +72,7 @@ fn efforts_of(world: &World) -> Efforts
     }
 }
 
-/// Probes the saved genotypes of the groups, dealt to as many parts as there are workers, each part on a thread.
+/// Probes the saved genotypes of the groups, dealt into as many parts as there are workers, each part on a thread.
 pub fn probe_all<R: Threads + Sync>(
     rt: &R,
     alloc: Global,

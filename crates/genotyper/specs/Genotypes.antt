@@ -10,7 +10,7 @@ pub record GenotypeFields : Type 0 where
   pub genotypes : List Genotype
   pub spare : ℕ
 
--- a genotype of so many individuals, with no effort noted
+-- a genotype of `total` individuals, with no effort noted
 abbrev pub new_genotype : List ℕ → Option ℕ → ℕ → ℕ → Genotype
 new_genotype code parent q total =
     record { code = code; parent = parent; first_quantum = q; total = total; first_effort = None; second_effort = None }
@@ -30,7 +30,7 @@ genotype_of (code, d) =
 abbrev pub genotypes_of : List (List ℕ × Details) → List Genotype
 genotypes_of entries = map genotype_of entries
 
--- What the type keeps: no code is too long, each rank is that of the list, and each count is that of a size.
+-- What the type ensures: no code is too long, each rank agrees with the list, and each count is that of its size.
 pub record IsRanked (entries : List (List ℕ × Details)) (count : ℕ → ℕ) : Type 0 where
   pub short : (k : ℕ) (code : List ℕ) (d : Details) → slice_get entries k ≡ Some (code, d) → length code ≤ MOST_SIZE
   pub ranks : (k : ℕ) (code : List ℕ) (d : Details) → slice_get entries k ≡ Some (code, d)

@@ -19,8 +19,8 @@ abbrev pub word : ℕ → ℕ → List ℕ
 word zero rank = []
 word (suc n) rank = (97 + rank / 26 ^ n) ∷ word n (rank % 26 ^ n)
 
--- a word of n letters or more by its rank among those words, of which the shorter ones come first (the first number
--- bounds how many lengths are tried)
+-- a word of n letters or more by its rank among those words, with shorter words first (the first argument bounds how
+-- many lengths are tried)
 abbrev pub word_from : ℕ → ℕ → ℕ → List ℕ
 word_from zero n rank = word n rank
 word_from (suc lengths) n rank =
@@ -36,7 +36,7 @@ letters_of rank = word_from rank 3 rank
 unfoldable pub name_text : Name → List ℕ
 name_text name = size_text name.size ++ letters_of name.rank
 
--- ---- the name that a text says
+-- ---- the name that a text spells
 
 -- the number that digits of a base write, the highest first; the byte of the digit 0 is first
 abbrev pub value_in : ℕ → ℕ → List ℕ → ℕ
@@ -59,7 +59,7 @@ digits_of text = take_while is_ascii_digit text
 abbrev pub rest_of : List ℕ → List ℕ
 rest_of text = drop (length (digits_of text)) text
 
--- four digits, or more where the first is not 0, that write a number from 1 to 20,000
+-- four digits, or more if the first is not 0, that write a number from 1 to 20,000
 abbrev pub is_size : List ℕ → Bool
 is_size digits =
     nat_le 4 (length digits) && (length digits == 4 || not (slice_index digits 0 == 48))
@@ -69,11 +69,11 @@ is_size digits =
 abbrev pub is_word : List ℕ → Bool
 is_word bytes = nat_le 3 (length bytes) && nat_le (length bytes) 13 && list_all is_ascii_lowercase bytes
 
--- of a rank below COUNT_END
+-- the letters of a rank below COUNT_END
 abbrev pub are_letters : List ℕ → Bool
 are_letters bytes = is_word bytes && nat_lt (rank_of bytes) COUNT_END
 
--- the size is looked at first
+-- the name that a text spells; the size is checked first
 unfoldable pub name_in : List ℕ → Result Name NameFault
 name_in text =
     let digits = digits_of text in

@@ -1,6 +1,6 @@
 //! The genotypes that ever lived, in the order of first birth.
 
-ghost use Rattle.std.specs.Prelude.{◌≡◌, ◌==◌, ◌++◌, ◌∷◌, ◌+◌, ◌<◌, ◌≤◌, ◌^◌, [], All, IfSome, List, None, OnOk, length, nat_eq, unwrap_or, ℕ};
+ghost use Rattle.std.specs.Prelude.{◌≡◌, ◌==◌, ◌++◌, ◌∷◌, ◌+◌, ◌<◌, ◌≤◌, ◌^◌, [], IfSome, List, None, OnOk, length, nat_eq, unwrap_or, ℕ};
 ghost use Rattle.std.specs.HashMap.{get, spare as map_spare};
 ghost use Rattle.tierra_model.specs.declared.limits.TheConstants.{COUNT_END, MOST_SIZE};
 ghost use Rattle.tierra_model.specs.Counting.{one_if};
@@ -29,7 +29,7 @@ struct Details {
 }
 
 impl Details {
-    /// With one more individual.
+    /// These details with one more individual.
     fn raised(self) -> Details
         requires { self.total < COUNT_END }
         ensures raised { result ≡ record self { total = self.total + 1 } }
@@ -94,7 +94,7 @@ impl Genotypes {
         }
     }
 
-    /// Takes the memory that as many births may need.
+    /// Takes the memory that `more` births may need.
     pub fn reserve(&mut self, more: u32) -> Result<(), OutOfMemory>
         ensures same { self.new.genotypes ≡ self.old.genotypes }
         ensures ok { OnOk result (more ≤ self.new.spare) }
@@ -160,7 +160,7 @@ impl Genotypes {
         code
     }
 
-    /// The genotype of the mother of a genotype's first individual, if that one was born.
+    /// The genotype of the mother of a genotype's first individual, or none if that individual was inoculated.
     pub fn parent_of(&self, number: u64) -> Option<u64>
         requires { number < length self.now.genotypes }
         ensures { result ≡ (genotype_at self.now.genotypes number).parent }
@@ -169,7 +169,7 @@ impl Genotypes {
         details.parent
     }
 
-    /// The quantum of a genotype's first birth, 0 where its first individual was inoculated.
+    /// The quantum of a genotype's first birth, or 0 if its first individual was inoculated.
     pub fn first_quantum(&self, number: u64) -> u64
         requires { number < length self.now.genotypes }
         ensures { result ≡ (genotype_at self.now.genotypes number).first_quantum }
@@ -178,7 +178,7 @@ impl Genotypes {
         details.first_quantum
     }
 
-    /// The first effort that was noted of a mother's first daughter, where the mother has the genotype.
+    /// The effort that was noted first for a first daughter of a mother with the genotype.
     pub fn first_effort(&self, number: u64) -> Option<Effort>
         requires { number < length self.now.genotypes }
         ensures { result ≡ (genotype_at self.now.genotypes number).first_effort }
@@ -187,7 +187,7 @@ impl Genotypes {
         details.first_effort
     }
 
-    /// The first effort that was noted of a mother's second daughter.
+    /// The effort that was noted first for a second daughter of a mother with the genotype.
     pub fn second_effort(&self, number: u64) -> Option<Effort>
         requires { number < length self.now.genotypes }
         ensures { result ≡ (genotype_at self.now.genotypes number).second_effort }
@@ -196,8 +196,8 @@ impl Genotypes {
         details.second_effort
     }
 
-    /// Notes what daughter number `bred` of a mother cost her, where the mother has the genotype. An effort that is
-    /// there stays, and daughters after the second are not noted.
+    /// Notes what daughter number `bred` cost her mother, who has the genotype. An effort noted before stays, and
+    /// daughters after the second are not noted.
     #[tactic(auto, using(crate::proofs::Writes::written))]
     pub fn note_effort(&mut self, number: u64, bred: u64, effort: Effort)
         requires { number < length self.old.genotypes }
@@ -209,7 +209,7 @@ impl Genotypes {
     }
 
     /// Counts an individual, born or inoculated in quantum `q`, and gives the number of its genotype. The parent is the
-    /// genotype of its mother, none where it was inoculated: it is kept where the code is new.
+    /// genotype of its mother, or none if it was inoculated; it is kept if the code is new.
     #[tactic(auto, using(crate::proofs::Births::individuals))]
     pub fn note_birth(&mut self, code: Code, parent: Option<u64>, q: u64) -> u64
         requires room { 0 < self.old.spare }
@@ -240,7 +240,7 @@ impl Genotypes {
         *details = details.raised();
     }
 
-    /// Puts a genotype of which there were `total` individuals behind all others, and gives its number.
+    /// Adds a genotype that had `total` individuals after all others, and gives its number.
     #[tactic(auto, using(crate::proofs::Births::entered))]
     pub fn enter_with(&mut self, code: Code, parent: Option<u64>, q: u64, total: u64) -> u64
         requires room { 0 < self.old.spare }
@@ -265,7 +265,7 @@ impl Genotypes {
     }
 }
 
-/// One more of a size: how many there were before.
+/// Counts one more genotype of the size, and gives how many there were before.
 fn count_one(sizes: &mut HashMap<u32, u64>, size: u32) -> u64
     requires room { 0 < map_spare sizes.old }
     requires count { unwrap_or (get nat_eq sizes.old size) 0 < 2 ^ 63 }
@@ -280,7 +280,7 @@ fn count_one(sizes: &mut HashMap<u32, u64>, size: u32) -> u64
     count
 }
 
-/// Puts a code that is not there behind all others.
+/// Adds a new code after all others.
 #[tactic(auto, using(crate::proofs::Births::insert_entry_behind))]
 fn put_last(entries: &mut IndexMap<Code, Details>, code: Code, details: Details)
     requires room { 0 < map_spare entries.old }

@@ -7,13 +7,13 @@ ghost use Rattle.std.specs.Str.{all_ascii_digits};
 ghost use Rattle.tierra_model.specs.declared.genebank.Name.{Name};
 ghost use Rattle.tierra_model.specs.declared.limits.TheConstants.{COUNT_END};
 ghost use Rattle.tierra_model.specs.Groups.{IsName};
-ghost use Rattle.genotyper.specs.Names.{are_letters, digits_of, is_size, is_word, letters_of, name_in, name_text, rank_of, shorter_words, size_text, value_in, word};
+ghost use Rattle.genotyper.specs.Names.{are_letters, digits_of, is_size, is_word, letters_of, name_in, name_text, rank_of, shorter_words, value_in, word};
 
 use std::alloc::Global;
 use thiserror::Error;
 use tierra_model::{COUNT_END, MOST_SIZE, Name, OutOfMemory, Text};
 
-/// What is wrong with a text that is no name: first its digits are looked at, and then its letters.
+/// What is wrong with a text that is no name. The digits are checked before the letters.
 #[derive(Clone, Copy, Debug, Drop, PartialEq, Eq, Error)]
 pub enum NameFault {
     #[error("the size of a genotype is wrong")]
@@ -48,7 +48,7 @@ fn push_letters(items: &mut Vec<u8>, rank: u64) -> Result<(), OutOfMemory>
     push_word(items, letters, left)
 }
 
-/// Appends a word of so many letters, by its rank among these.
+/// Appends the word of this many letters that has this rank among all such words.
 fn push_word(items: &mut Vec<u8>, letters: u32, rank: u64) -> Result<(), OutOfMemory>
     requires few { letters ≤ 14 }
     requires rank { rank < 26 ^ letters }
@@ -63,7 +63,7 @@ fn push_word(items: &mut Vec<u8>, letters: u32, rank: u64) -> Result<(), OutOfMe
     Ok(())
 }
 
-/// The name that a text says. It takes no memory.
+/// The name that a text spells. It takes no memory.
 pub fn parse_name(text: &str) -> Result<Name, NameFault>
     ensures read { result ≡ name_in text.now }
     ensures is_text { IfOk result (λ name. IsName name × (text.now ≡ name_text name)) }
@@ -135,7 +135,7 @@ fn are_lowercase(bytes: &[u8]) -> bool
     bytes.iter().all(|b| b.is_ascii_lowercase())
 }
 
-/// How many words have at least three letters, and fewer than `more` and three.
+/// How many words have at least three letters, but fewer than `more + 3`.
 fn shorter_words(more: usize) -> u64
     requires { more ≤ 10 }
     ensures value { result ≡ shorter_words more }
@@ -150,7 +150,7 @@ fn shorter_words(more: usize) -> u64
     all
 }
 
-/// The number that digits of a base write.
+/// The number that digits of the base write, where `first` is the digit 0.
 fn value_in(base: u64, first: u8, digits: &[u8]) -> u64
     requires base { (0 < base) × (first + base ≤ 256) }
     requires digits { All (λ d. (first ≤ d) × (d < first + base)) digits.now }

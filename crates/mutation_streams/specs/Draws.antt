@@ -2,7 +2,7 @@
 use Rattle.std.specs.Prelude.{List, ℕ}
 use Rattle.tierra_model.specs.declared.parameters.Settings.{Settings}
 
--- the seed, the stream, which is the quantum's number, the size of the soup, and the three rates
+-- the seed, the quantum (whose number is that of the stream), the size of the soup, and the three rates
 pub record DrawFields : Type 0 where
   pub seed : List ℕ
   pub quantum : ℕ

@@ -13,7 +13,7 @@ abbrev pub first_words : List ℕ → ℕ → List ℕ
 first_words key stream =
     word_at 4 key stream 0 ∷ word_at 4 key stream 1 ∷ word_at 4 key stream 2 ∷ []
 
--- four words from this one on
+-- four words of the stream, from word n on
 abbrev pub words_at : List ℕ → ℕ → ℕ → List ℕ
 words_at key stream n =
     word_at 4 key stream n ∷ word_at 4 key stream (n + 1) ∷ word_at 4 key stream (n + 2) ∷ word_at 4 key stream (n + 3) ∷ []

@@ -1,5 +1,5 @@
-//! What a quantum draws: flips in the soup, flaws of instructions and flips in copies. The words are those of the
-//! stream of `ChaCha8Rng` that has the quantum's number.
+//! What a quantum draws: flips in the soup, flaws of instructions and flips in copies. The words are those of
+//! `ChaCha8Rng`, from the stream whose number is the quantum.
 #![tactic(auto)]
 
 mod reading;
@@ -17,8 +17,8 @@ use tierra_model::Settings;
 
 /// The draws of one quantum. A rate R is due at a word that R divides, and at none where R is 0.
 ///
-/// The words are found by number. Where they are asked for in order the stream is read on, and each block of it that is
-/// needed is made once.
+/// The words are found by number. If they are asked for in order, the stream is read on, and each block of it is made
+/// only once.
 #[derive(Debug, Drop)]
 pub struct Draws {
     seed: [u8; 32],
@@ -83,7 +83,7 @@ impl Draws {
         Some((cell % self.soup_size, (bit % 5) as u8))
     }
 
-    /// The flaw of instruction `i` of the quantum: 1, -1 or none, which is 0.
+    /// The flaw of instruction `i` of the quantum: 1, -1, or 0 for none.
     #[inline]
     pub fn flaw(&mut self, i: u32) -> i32
         ensures flaw { result ≡ flaw self.old.flaw_rate (word self.old.seed self.old.quantum) i }

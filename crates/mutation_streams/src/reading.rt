@@ -9,7 +9,7 @@ use rand_core::SeedableRng;
 use rand_core::utils::NextWord;
 use std::marker::Model;
 
-/// The words of a stream before those of the instructions, and those of the instruction that was asked for last.
+/// The first words of a stream, before those of the instructions, and the words of the instruction asked for last.
 #[derive(Debug, Drop)]
 pub(crate) struct Reading {
     rng: ChaCha8Rng,
@@ -47,7 +47,7 @@ impl Reading {
         }
     }
 
-    /// The words of instruction `i`. Where it is a later one than before, the stream is read on.
+    /// The words of instruction `i`. For a later instruction than before, the stream is read on.
     #[inline(always)]
     pub(crate) fn words_of(&mut self, i: u32) -> [u32; 4]
         ensures words { result ≡ instruction_words self.old.key self.old.stream i }
@@ -81,7 +81,7 @@ impl Reading {
     }
 }
 
-// Reads over the words of so many instructions.
+// Reads over the words of this many instructions.
 fn skip(rng: &mut ChaCha8Rng, instructions: u32)
     requires { rng.old.word_pos + 4 * instructions < 2 ^ 68 }
     ensures { rng.new ≡ record rng.old { word_pos = rng.old.word_pos + 4 * instructions } }

@@ -16,12 +16,12 @@ use std::sync::ledger::Ledger;
 use step_count::Steps;
 use tierra_model::{Act, Block, Creature, OutOfMemory, Settings};
 
-/// A world, or a scene that stands for one, in the middle of a quantum. The operations are those of a machine of the
-/// definitions.
+/// A world, or a scene that stands for one, in the middle of a quantum. The methods do what the operations of a machine
+/// of the definitions do.
 pub trait Ground {
     ghost State: { Type 0 };
 
-    /// The machine of which the operations are.
+    /// The machine whose operations these are.
     ghost machine: { Machine State };
 
     ghost state: { Self → State };
@@ -29,10 +29,10 @@ pub trait Ground {
     /// The settings, and the number of the quantum that runs.
     ghost frame: { Self → Frame };
 
-    /// So much more can happen: an instruction takes 4, a background flip 1, a death nothing.
+    /// There is room for this much more: an instruction takes 4, a background flip 1, a death nothing.
     ghost Ready: { Self → ℕ → Type 0 };
 
-    /// What a refusal of memory would mean: a ground that has all its memory before has no refusal.
+    /// What holds if memory was refused. For a ground that takes all its memory beforehand it is false.
     ghost Refusal: { Type 0 };
 
     /// The record of the creature that runs.
@@ -175,6 +175,6 @@ pub trait Ground {
         ensures ready { OnOk result ((n : ℕ) → Ready self.old (n + 2) → Ready self.new n) }
         ensures err { OnErr result Refusal };
 
-    /// What is ready for more is ready for less.
+    /// A ground with room for more has room for less.
     ghost ready_fewer: { (g : Self) (m n : ℕ) → m ≤ n → Ready g n → Ready g m };
 }

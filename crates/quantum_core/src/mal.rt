@@ -9,7 +9,7 @@ ghost use Rattle.tierra_model.specs.Room.{room_for};
 use crate::ground::Ground;
 use tierra_model::{Block, OutOfMemory};
 
-/// A `mal` whose request passed: the daughter block is given up, others die until there is room, and the block is
+/// A `mal` whose request passed: the daughter block is given up, others die until there is room, and a block is
 /// taken.
 pub(crate) fn mal<G: Ground>(ground: &mut G, size: u32) -> Result<(), OutOfMemory>
     requires ready { G.Ready ground.old 3 }
@@ -26,7 +26,7 @@ pub(crate) fn mal<G: Ground>(ground: &mut G, size: u32) -> Result<(), OutOfMemor
     make_room(ground, size)
 }
 
-// A daughter block that is held is given up.
+// The daughter block is given up, if one is held.
 fn give_up<G: Ground>(ground: &mut G) -> Result<(), OutOfMemory>
     requires { G.Ready ground.old 1 }
     ensures state { OnOk result (G.state ground.new
@@ -42,7 +42,7 @@ fn give_up<G: Ground>(ground: &mut G) -> Result<(), OutOfMemory>
     Ok(())
 }
 
-// Others die until there is room, and the block is taken; where nobody is left and there is no room, it errs.
+// Others die until there is room, and the block is taken; if nobody else is left and there is no room, the caller errs.
 fn make_room<G: Ground>(ground: &mut G, size: u32) -> Result<(), OutOfMemory>
     requires ready { G.Ready ground.old 2 }
     requires none { (Machine.front G.machine (G.state ground.old)).daughter ≡ None }

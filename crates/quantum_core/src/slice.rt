@@ -13,7 +13,7 @@ use std::sync::ledger::Ledger;
 use step_count::Steps;
 use tierra_model::{Act, OutOfMemory, Settings};
 
-/// The background flip, the disturbance, and so many instructions of quantum `quantum`.
+/// The background flip, the disturbance, and the instructions of quantum `quantum`.
 pub fn run_slice<G: Ground, L: Ledger>(
     ground: &mut G,
     settings: &Settings,
@@ -56,7 +56,7 @@ fn flip<G: Ground>(ground: &mut G, draws: &mut Draws)
     }
 }
 
-// Where the disturbance is due, so many in a hundred of the living die, but never the creature that runs.
+// If the disturbance is due, `dist_percent` percent of the living die, but never the creature that runs.
 fn disturb<G: Ground>(ground: &mut G, settings: &Settings, quantum: u64) -> Result<(), OutOfMemory>
     requires ready { G.Ready ground.old 0 }
     requires settings { settings.now ≡ (G.frame ground.old).settings }
@@ -81,7 +81,7 @@ fn is_disturbed(every: u32, quantum: u64) -> bool
     every > 0 && quantum % u64::from(every) == 0
 }
 
-// So often the first creature of the reaper queue other than the one that runs dies, while there is one.
+// The first creature of the reaper queue other than the one that runs dies, up to `times` times, while there is one.
 fn reap_times<G: Ground>(ground: &mut G, times: u64) -> Result<(), OutOfMemory>
     requires { G.Ready ground.old 0 }
     ensures state { OnOk result (G.state ground.new

@@ -1,4 +1,4 @@
--- What a quantum leaves that ran in a scene.
+-- What a quantum that ran in a scene leaves.
 use Rattle.std.specs.Prelude.{List, ℕ, ◌≡◌}
 use Rattle.tierra_model.specs.declared.creatures.Block.{Block}
 use Rattle.tierra_model.specs.declared.creatures.Creature.{Creature}
@@ -12,7 +12,7 @@ use Rattle.tierra_model.proofs.Each.{Each}
 use Rattle.quantum_run.specs.declared.outcome.Outcome.{Outcome}
 use Rattle.quantum_run.specs.OnScene.{IsCellOf}
 
--- the quantum of the scene leaves this, and read cells of the soup alone
+-- the quantum of the scene leaves this outcome, and every cell that it read is in the soup
 pub record IsOutcome (scene : Scene) (o : Outcome) : Type 0 where
   pub cells : o.reads.reads.cells ≡ (run_in_scene scene).cells
   pub events : o.events.items ≡ (run_in_scene scene).events
@@ -21,7 +21,7 @@ pub record IsOutcome (scene : Scene) (o : Outcome) : Type 0 where
   pub yard : o.yard_noted ≡ (run_in_scene scene).yard_noted
   pub within : Each (IsCellOf scene.settings.soup_size) (run_in_scene scene).cells
 
--- the finding of that, for a quantum of these settings, of this number and record, which was shown these lists
+-- the finding made from an outcome, with the settings, number, record before and lists shown of its quantum
 abbrev pub finding_by : Settings → ℕ → Creature → List Block → List Standing → Outcome → Finding
 finding_by settings quantum before free yard o =
     record {

@@ -1,4 +1,4 @@
--- A list of a job that is copied where it changes.
+-- The yard of a job, which is copied when it changes.
 use Rattle.std.specs.Prelude.{List, ℕ}
 use Rattle.tierra_model.specs.declared.creatures.Standing.{Standing}
 

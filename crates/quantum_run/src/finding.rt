@@ -8,7 +8,7 @@ use std::marker::Model;
 use tierra_model::{Creature, EventList, OutOfMemory, Settings};
 
 /// What a quantum that ran alone found: the record of its creature before and after, what it read, and its events in
-/// order. It stands: who runs the quantum on what was read finds just this.
+/// order. It stands: any run of the quantum that reads the same finds the same.
 #[derive(Drop)]
 pub struct Finding {
     quantum: u64,
@@ -64,7 +64,7 @@ impl Finding {
         Finding { quantum, sheet }
     }
 
-    // Its memory. The lists that it shares are let go.
+    // The memory of the finding, for another job. The lists that it shares are released.
     pub(crate) fn into_room(self) -> Room {
         let mut sheet = self.sheet;
         sheet.reads.clear();
@@ -115,7 +115,7 @@ impl Finding {
         &self.sheet.after
     }
 
-    /// Another finding of the same.
+    /// A copy of the finding.
     pub fn copy(&self) -> Result<Finding, OutOfMemory>
         ensures { IfOk result (λ f. f ≡ self.now) }
     {

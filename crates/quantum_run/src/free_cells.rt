@@ -1,4 +1,4 @@
-//! The free cells as seen by a quantum that runs alone.
+//! The free cells as a quantum that runs alone sees them.
 
 ghost use Rattle.std.specs.Prelude.{◌≡◌, ◌+◌, ◌<◌, ◌≤◌, ◌^◌, ◌&&◌, ◌||◌, ℕ, IfOk, length, not, true, false};
 ghost use Rattle.tierra_model.specs.Blocks.{is_in};
@@ -10,8 +10,8 @@ use block_alloc::{Blocks, filled_of, fit_in};
 use std::marker::Model;
 use tierra_model::{Block, OutOfMemory};
 
-/// The free runs of a job, until a block is taken or given back, and from then on a copy. The room for the copy is there
-/// from the beginning, so no change takes memory.
+/// The free runs of a job until a block is taken or given back, and a copy of them from then on. The room for the copy
+/// is there from the beginning, so no change takes memory.
 #[derive(Drop)]
 pub(crate) struct FreeCells<'a> {
     size: u32,
@@ -39,8 +39,8 @@ impl<'a> Model for FreeCells<'a> {
 }
 
 impl<'a> FreeCells<'a> {
-    /// The free runs of a job in a soup of `size` cells, with room for `more` changes. The copy goes into `own`, whatever
-    /// it has.
+    /// The free runs of a job in a soup of `size` cells, with room for `more` changes. The copy goes into `own`,
+    /// whose contents do not matter.
     pub(crate) fn begin(
         shown: &'a [Block],
         size: u32,
@@ -119,7 +119,7 @@ impl<'a> FreeCells<'a> {
 
 ghost use Rattle.std.specs.Prelude.{◌-◌, if◌then◌else◌};
 
-// From here on the free runs are the copy.
+// Makes the copy, if it was not made before.
 fn make_own(own: &mut Blocks, is_own: &mut bool, size: u32, shown: &[Block])
     requires runs { AreRuns 0 size shown.now }
     requires room { is_own.old ≡ false → length shown.now ≤ length own.old.free + own.old.spare }

@@ -19,7 +19,7 @@ use tierra_model::{Block, Creature, FreeList, OutOfMemory, Settings, Standing, Y
 #[derive(Drop)]
 pub struct Job {
     quantum: u64,
-    // the settings and the creature expected, with memory for the finding, which no contract sees
+    // the settings, the creature expected, and memory for the finding, which no contract sees
     sheet: Box<Sheet>,
     cells: Version,
     free: Arc<FreeList>,
@@ -55,8 +55,8 @@ impl Model for Job {
 }
 
 impl Job {
-    /// The job of a quantum, made of the parts of one sound world, with memory for its finding. It takes memory where that has
-    /// none for a job.
+    /// The job of a quantum, made of the parts of one sound world, with memory for its finding. It takes memory only
+    /// if `room` is empty.
     pub fn of(
         alloc: Global,
         settings: &Settings,
@@ -102,7 +102,7 @@ impl Job {
         self.sheet.take_lists()
     }
 
-    // Its own memory, and the lists that it shares.
+    // The job's own memory, and the lists that it shares.
     pub(crate) fn into_parts(self) -> (Box<Sheet>, Arc<FreeList>, Arc<Yard>)
         ensures settings { result.0.value.settings ≡ self.settings }
         ensures before { result.0.value.before ≡ self.front }

@@ -1,4 +1,4 @@
-//! One quantum, run alone on an unchanging version of the soup, and what it found.
+//! Runs one quantum alone on a version of the soup that does not change, and gives what it found.
 #![tactic(auto)]
 
 mod cells;

@@ -75,7 +75,7 @@ ghost use Rattle.quantum_run.specs.OnScene.{SceneReady};
 ghost use Rattle.quantum_run.specs.Outcomes.{IsOutcome};
 
 impl<'a> OnScene<'a> {
-    /// The scene before its quantum, with all memory for so many instructions, and with marks by which no cell is known.
+    /// The scene before its quantum, with all memory for its instructions, and with no cell known.
     pub(crate) fn new(
         job: &'a Job,
         slice: u32,
@@ -109,7 +109,7 @@ impl<'a> OnScene<'a> {
         })
     }
 
-    /// What the quantum leaves, once it has run; the marks, by which no cell is known any more; and the room of the copies.
+    /// After the quantum has run: what it leaves, the marks with no cell known, and the room of the copies.
     pub(crate) fn into_outcome(self) -> (Outcome, Vec<u8>, Copies)
         requires ready { SceneReady self 0 }
         requires run { self.run ≡ run_in_scene self.run.start }
@@ -277,7 +277,7 @@ ghost use Rattle.tierra_model.specs.Blocks.{is_in, is_in_daughter};
 ghost use Rattle.tierra_model.specs.FreeList.{is_in_some, runs_of};
 ghost use Rattle.tierra_model.specs.Yard.{stand_in};
 
-// The number under which newborn `k` of the quantum stands in the yard.
+// The number that newborn `k` of the quantum has in the yard.
 fn number_of_newborn(k: u64) -> u64
     requires { k < COUNT_END }
     ensures { result ≡ stand_in k }
@@ -285,7 +285,7 @@ fn number_of_newborn(k: u64) -> u64
     (1 << 63) + k
 }
 
-// The blocks of a creature that died are given back.
+// Gives back the blocks of a creature that died.
 fn give_back(free: &mut FreeCells, dead: &Standing)
     requires own { dead.now.own.at + dead.now.own.size ≤ free.old.size }
     requires daughter { (p : ℕ) → is_in_daughter dead.now.daughter p ≡ true → p < free.old.size }
@@ -320,7 +320,7 @@ fn give_back_daughter(free: &mut FreeCells, daughter: Option<Block>)
 ghost use Rattle.tierra_model.specs.declared.events.Event.TheVariants as event;
 ghost use Rattle.tierra_model.specs.Events.{record_after};
 
-// The block taken is the daughter block.
+// Makes the block the daughter block.
 fn take_up(front: &mut Creature, block: Block)
     requires { block.at < 2 ^ 31 }
     ensures { front.new ≡ record_after (event.Mal block.at block.size) front.old }
@@ -330,7 +330,7 @@ fn take_up(front: &mut Creature, block: Block)
     front.ax = block.at as i32;
 }
 
-// A write and an error are done.
+// Appends the event of a write or an error; an error also moves the creature up in the yard.
 fn do_act(events: &mut Vec<Event>, yard: &mut Standings, front: &Creature, act: Act)
     requires { vec_len events.old < vec_capacity events.old }
     ensures events { events.new.items ≡ events_after act events.old.items }

@@ -1,4 +1,4 @@
-//! What is left by a quantum that ran in a scene.
+//! What a quantum that ran in a scene leaves.
 
 ghost use Rattle.std.specs.Prelude.{◌≡◌, ◌<◌, ◌^◌, length};
 ghost use Rattle.std.specs.Arc.{arc_value};
@@ -12,8 +12,8 @@ use read_sets::Reads;
 use std::sync::Arc;
 use tierra_model::{Creature, Event, EventList, FreeList, Yard};
 
-/// What a quantum found, but for the lists that its job shares: the cells that it read, its events, the record after it, and
-/// whether it read the free list and the yard.
+/// What a quantum found, without the lists that its job shares: the cells that it read, its events, the record after
+/// it, and whether it read the free list and the yard.
 #[derive(Drop)]
 pub(crate) struct Outcome {
     pub(crate) reads: Reads,
@@ -24,7 +24,7 @@ pub(crate) struct Outcome {
 }
 
 impl Outcome {
-    /// The finding, on the sheet of the job, with the lists that the job shares.
+    /// The finding, in the memory of the job's sheet, with the lists that the job shares.
     pub(crate) fn into_finding(
         self,
         quantum: u64,
@@ -52,7 +52,7 @@ impl Outcome {
     }
 }
 
-// The value, where it is wanted.
+// The value, if `is` says so.
 fn some_if<T: Drop>(is: bool, value: T) -> Option<T>
     ensures { result ≡ some_if is value }
 {

@@ -5,7 +5,7 @@ ghost use Rattle.std.specs.Prelude.{◌≡◌, ◌<◌, length, slice_index};
 use soup_cells::{PAGE, Version};
 use std::marker::Model;
 
-/// A version of the soup, with the page at hand that was looked into last. Most looks are near the one before.
+/// A version of the soup, with the page that was read last kept at hand, since most looks are near the one before.
 #[derive(Drop)]
 pub(crate) struct PageReader<'a> {
     version: &'a Version,
@@ -60,8 +60,8 @@ impl<'a> PageReader<'a> {
         self.turn_to(at)
     }
 
-    // The code in a cell of another page, which is then at hand. It stands apart so that a look into the page at hand is
-    // inlined.
+    // The code in a cell of another page, which is then at hand. It is a function of its own, so that a look into the
+    // page at hand is inlined.
     #[cold]
     #[inline(never)]
     fn turn_to(&mut self, at: u32) -> u8

@@ -9,7 +9,7 @@ use std::alloc::Global;
 use std::mem;
 use tierra_model::{Creature, Event, EventList, OutOfMemory, Settings, Standing};
 
-/// Room for the copies of a job's free runs and yard, which a quantum makes where it changes them.
+/// Room for the copies of a job's free runs and yard, which a quantum makes when it changes them.
 #[derive(Drop)]
 pub(crate) struct Copies {
     pub(crate) free: Blocks,
@@ -40,7 +40,7 @@ impl Lists {
         }
     }
 
-    /// Nothing is noted, and there is room for so many cells and events.
+    /// The same lists, emptied, with room for this many cells and events.
     pub(crate) fn emptied(self, cells: u32, events: u32) -> Result<Lists, OutOfMemory>
         ensures reads { IfOk result (λ n. n.reads.reads ≡ nothing) }
         ensures cells { IfOk result (λ n. cells ≤ n.reads.spare) }
@@ -61,9 +61,9 @@ impl Lists {
     }
 }
 
-/// What is large in a job and in its finding: the settings, the record of the creature before the quantum and after it, and
-/// the lists. A job has the first two, and memory for the others. A sheet is boxed, since jobs and findings go through many
-/// hands.
+/// The large parts of a job and of its finding: the settings, the records of the creature before and after the quantum,
+/// and the lists. A job has the settings and the record before, and memory for the others. A sheet is boxed, since jobs
+/// and findings are moved often.
 #[derive(Drop)]
 pub(crate) struct Sheet {
     pub(crate) settings: Settings,
@@ -74,7 +74,7 @@ pub(crate) struct Sheet {
 }
 
 impl Sheet {
-    // Gives up its lists.
+    // Takes the lists out, and leaves empty ones.
     pub(crate) fn take_lists(&mut self) -> Lists
         ensures settings { self.new.settings ≡ self.old.settings }
         ensures before { self.new.before ≡ self.old.before }
@@ -87,8 +87,8 @@ impl Sheet {
     }
 }
 
-/// The memory of a job and its finding, where some is kept. It goes out with the job, and comes back once the finding is
-/// done with.
+/// The memory for a job and its finding, if some is kept. It goes out with the job, and comes back when the finding is
+/// no longer needed.
 #[derive(Drop)]
 pub struct Room {
     pub(crate) sheet: Option<Box<Sheet>>,

@@ -1,4 +1,4 @@
-//! The yard as seen by a quantum that runs alone.
+//! The yard as a quantum that runs alone sees it.
 
 ghost use Rattle.std.specs.Prelude.{◌≡◌, ◌+◌, ◌++◌, ◌<◌, ◌≤◌, ◌^◌, ◌∷◌, [], IfOk, length, remove, slice_index_or};
 ghost use Rattle.tierra_model.specs.Queue.{error_move, good_move};
@@ -8,8 +8,8 @@ use crate::yard::{move_down, move_up, show};
 use std::marker::Model;
 use tierra_model::{Creature, OutOfMemory, Standing};
 
-/// The yard of a job, until something in it changes, and from then on a copy. The room for the copy is there from the
-/// beginning, so no change takes memory.
+/// The yard of a job until something in it changes, and a copy of it from then on. The room for the copy is there from
+/// the beginning, so no change takes memory.
 #[derive(Drop)]
 pub(crate) struct Standings<'a> {
     shown: &'a [Standing],
@@ -32,7 +32,7 @@ impl<'a> Model for Standings<'a> {
 }
 
 impl<'a> Standings<'a> {
-    /// The yard of a job, of which `more` more can be put in. The copy goes into `own`, whatever it has.
+    /// The yard of a job, with room for `more` more standings. The copy goes into `own`, whose contents do not matter.
     pub(crate) fn begin(
         shown: &'a [Standing],
         own: Vec<Standing>,
@@ -64,7 +64,7 @@ impl<'a> Standings<'a> {
         if self.is_own { &self.own } else { self.shown }
     }
 
-    /// The creature's standing follows its record.
+    /// Updates the creature's standing to its record.
     pub(crate) fn show(&mut self, creature: &Creature)
         ensures items { self.new.items ≡ with_standing creature.now self.old.items }
         ensures room { self.old.room ≤ self.new.room }
@@ -73,7 +73,7 @@ impl<'a> Standings<'a> {
         show(&mut self.own, creature);
     }
 
-    /// The creature changes places with the one above it, unless there is none or that one has more errors.
+    /// The creature changes places with the one above it, unless there is none or it has more errors.
     pub(crate) fn move_up(&mut self, creature: &Creature)
         ensures items { self.new.items ≡ error_move (is_standing_of creature.now) (λ x. x.errors) self.old.items }
         ensures room { self.old.room ≤ self.new.room }
@@ -82,7 +82,7 @@ impl<'a> Standings<'a> {
         move_up(&mut self.own, creature);
     }
 
-    /// The creature changes places with the one below it, unless there is none or it has more errors than that one.
+    /// The creature changes places with the one below it, unless there is none or the creature has more errors than it.
     pub(crate) fn move_down(&mut self, creature: &Creature)
         ensures items { self.new.items ≡ good_move (is_standing_of creature.now) (λ x. x.errors) self.old.items }
         ensures room { self.old.room ≤ self.new.room }
@@ -115,7 +115,7 @@ impl<'a> Standings<'a> {
 
 ghost use Rattle.std.specs.Prelude.{if◌then◌else◌, true, vec_capacity, vec_len};
 
-// From here on the yard is the copy.
+// Makes the copy, if it was not made before.
 fn make_own(own: &mut Vec<Standing>, is_own: &mut bool, shown: &[Standing])
     requires { length shown.now ≤ vec_capacity own.old }
     ensures items { own.new.items ≡ (if is_own.old then own.old.items else shown.now) }

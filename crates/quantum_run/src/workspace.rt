@@ -22,8 +22,8 @@ use std::sync::ledger::Ledger;
 use step_count::Steps;
 use tierra_model::OutOfMemory;
 
-/// What a worker keeps from one quantum to the next: a mark for each cell, by which none is known, and the memory of the
-/// lists and of findings that are done with. So in the long run no quantum takes memory.
+/// What a worker keeps from one quantum to the next: a mark for each cell, all of them unknown, and the memory of the
+/// lists and of findings no longer needed. So in the long run no quantum takes memory.
 #[derive(Drop)]
 pub struct Workspace {
     marks: Vec<u8>,
@@ -63,7 +63,7 @@ impl Workspace {
         Ok(outcome.into_finding(job.quantum(), sheet, free, yard))
     }
 
-    /// Runs the quantum of a job that nobody else needs. The finding has the memory of the job.
+    /// Runs the quantum of a job and uses the job up: the finding takes over its memory.
     pub fn complete<L: Ledger>(
         &mut self,
         mut job: Job,
@@ -80,7 +80,7 @@ impl Workspace {
         Ok(outcome.into_finding(quantum, sheet, free, yard))
     }
 
-    // What the quantum of a job leaves, in the memory of these lists.
+    // What the quantum of a job leaves, in the memory of `lists`.
     fn outcome_of<L: Ledger>(
         &mut self,
         job: &Job,
@@ -112,7 +112,7 @@ impl Workspace {
         }
     }
 
-    // The marks of a soup of `size` cells; new ones where these are of another soup.
+    // The marks for a soup of `size` cells; new ones if the kept ones are for another size.
     fn take_marks(&mut self, size: u32) -> Result<Vec<u8>, OutOfMemory>
         ensures size { IfOk result (λ marks. length marks.items ≡ size) }
         ensures fresh { IfOk result (λ marks. Each IsUnknown marks.items) }
@@ -125,7 +125,7 @@ impl Workspace {
         Ok(marks)
     }
 
-    /// Memory for a job and its finding, where some is kept, and else none.
+    /// Memory for a job and its finding, if some is kept; else an empty room.
     pub fn spare_room(&mut self) -> Room {
         match self.rooms.pop() {
             Some(room) => room,
@@ -133,7 +133,7 @@ impl Workspace {
         }
     }
 
-    /// Keeps the memory of a finding that is done with. Where there is no memory to keep it, it is let go.
+    /// Keeps the memory of a finding no longer needed. If the list of kept memory cannot grow, it is freed.
     pub fn keep_room(&mut self, finding: Finding) {
         let _kept: Result<_, _> = self.rooms.push(finding.into_room());
     }

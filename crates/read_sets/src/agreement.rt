@@ -1,6 +1,6 @@
 //! The first difference between what a quantum read and a world.
 
-ghost use Rattle.std.specs.Prelude.{All, ◌≡◌, ◌<◌, ◌^◌, ◌+◌, IfErr, IfOk, None, Some, length};
+ghost use Rattle.std.specs.Prelude.{All, ◌≡◌, ◌<◌, ◌^◌, IfErr, IfOk, None, Some, length};
 ghost use Rattle.tierra_model.specs.Difference.{first_difference, of_cells, of_free, of_front, of_yard};
 ghost use Rattle.tierra_model.specs.FreeList.{free_list};
 ghost use Rattle.tierra_model.specs.Yard.{yard};
@@ -8,7 +8,7 @@ ghost use Rattle.tierra_model.specs.Yard.{yard};
 use crate::reads::Reads;
 use tierra_model::{Block, Creature, Now, Stale, Standing};
 
-/// Whether a world agrees with the reads, and with the record of the creature that read them; else the first difference,
+/// Ok if a world agrees with the reads and with the record of the creature that read them; else the first difference,
 /// in the order front, body, cells as they were read, free list, yard. It takes no memory.
 pub fn agrees<W: Now>(reads: &Reads, front: &Creature, now: &W) -> Result<(), Stale>
     requires { All (λ c. c.0 < length (W.world now.now).soup) reads.now.reads.cells }

@@ -9,9 +9,9 @@ use std::marker::Model;
 use std::sync::Arc;
 use tierra_model::{FreeList, OutOfMemory, Yard};
 
-/// What a quantum read: cells in the order of reading, each with what it held, and the free list and the yard where
-/// they were read. The two lists are shared with whoever showed them, and not copied. Who notes a cell sees to it that
-/// it is noted once.
+/// What a quantum read: cells in the order of reading, each with what it held, and the free list and the yard if they
+/// were read. The two lists are shared with the job that showed them, and not copied. Callers note each cell only
+/// once.
 #[derive(Drop)]
 pub struct Reads {
     cells: Vec<(u32, u8)>,
@@ -43,7 +43,7 @@ impl Model for Reads {
 }
 
 impl Reads {
-    /// Nothing is read yet. It takes no memory, and has no room.
+    /// No reads yet. It takes no memory, and has no room.
     pub fn empty(alloc: Global) -> Reads
         ensures reads { result.reads ≡ nothing }
     {
@@ -54,7 +54,7 @@ impl Reads {
         }
     }
 
-    /// Nothing is read yet. There is room for `size` cells, which takes all the memory that reads of a soup of that size need.
+    /// No reads yet, with room for `size` cells, which is all that reads of a soup of that size need.
     pub fn new(alloc: Global, size: u32) -> Result<Reads, OutOfMemory>
         ensures reads { IfOk result (λ r. r.reads ≡ nothing) }
         ensures room { IfOk result (λ r. size ≤ r.spare) }
@@ -99,7 +99,7 @@ impl Reads {
         self.yard = Some(yard);
     }
 
-    /// Notes of both lists whether they were read: a list that is given was, the other was not.
+    /// Sets which of the two lists were read: those that are given.
     pub fn note_lists(&mut self, free: Option<Arc<FreeList>>, yard: Option<Arc<Yard>>)
         requires free { IfSome free (λ a. length (arc_value a) < 2 ^ 32) }
         requires yard { IfSome yard (λ a. length (arc_value a) < 2 ^ 32) }
@@ -112,7 +112,7 @@ impl Reads {
         self.yard = yard;
     }
 
-    /// Makes room for so many cells more. What was read stays.
+    /// Makes room for this many more cells. What was read stays.
     pub fn reserve(&mut self, more: u32) -> Result<(), OutOfMemory>
         requires { length self.old.reads.cells + more < 2 ^ 32 }
         ensures reads { self.new.reads ≡ self.old.reads }
@@ -176,7 +176,7 @@ impl Reads {
         }
     }
 
-    /// The same reads once more. The lists are shared.
+    /// A copy of the reads. The lists are shared.
     pub fn copy(&self) -> Result<Reads, OutOfMemory>
         ensures { IfOk result (λ r. r.reads ≡ self.now.reads) }
     {

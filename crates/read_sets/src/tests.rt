@@ -69,7 +69,7 @@ fn note_cell(reads: &mut Reads, cell: (u32, u8))
     }
 }
 
-/// Compares with the world a record, two cells, and the lists that are given.
+/// Compares a record, two cells, and the lists that are given with the world.
 fn compare(
     alloc: Global,
     front: &Creature,
@@ -94,7 +94,7 @@ fn compare(
 
 const TRUE_CELLS: [(u32, u8); 2] = [(0, 9), (3, 1)];
 
-// Each row agrees in one part more, in the order in which the parts are compared.
+// Each row agrees in one more part, in the order in which the parts are compared.
 #[test]
 fn the_first_difference_is_told(rt: HostRuntime) -> Result<(), Fail> {
     let alloc = rt.alloc();

@@ -5,7 +5,7 @@ use Rattle.std.specs.Prelude.{nat_lt, swap}
 use Rattle.tierra_model.specs.Queue.{error_move, good_move}
 use Rattle.reaper_queue.proofs.OnlyAt.{NonePass, OnlyAt}
 
--- behind one more element
+-- after one more element
 pushed : {X : Type 0} (x : X) (xs : List X) (k : ℕ) (d : X) → suc k < length xs → (b : Bool)
     → x ∷ cond b xs (swap xs k (suc k)) ≡ cond b (x ∷ xs) (swap (x ∷ xs) (suc k) (suc (suc k)))
 pushed x xs k d h true = refl

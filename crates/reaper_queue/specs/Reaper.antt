@@ -16,11 +16,11 @@ is_of id x = x.0 == id
 abbrev pub errors_of : ℕ × ℕ → ℕ
 errors_of x = x.1
 
--- the creature has one error more
+-- the entries with one more error for the creature
 abbrev pub with_error : ℕ → List (ℕ × ℕ) → List (ℕ × ℕ)
 with_error id entries = map (λ x. if x.0 == id then (x.0, x.1 + 1) else x) entries
 
--- the error count of the creature, 0 where it is not in the queue
+-- the error count of the creature, or 0 if it is not in the queue
 abbrev pub errors_in : ℕ → List (ℕ × ℕ) → ℕ
 errors_in id [] = 0
 errors_in id (x ∷ xs) = if x.0 == id then x.1 else errors_in id xs

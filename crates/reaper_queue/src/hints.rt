@@ -3,11 +3,11 @@
 use std::alloc::{AllocError, Global};
 use std::collections::VecDeque;
 
-/// The place at which a creature was last seen, for as many as the table has room for. Whoever asks looks whether the
-/// creature stands there, so nothing is promised of the answer.
+/// The place where each creature was last seen, as far as the table has room. The caller checks whether the creature
+/// stands there, so nothing is promised of the answer.
 #[derive(Drop)]
 pub(crate) struct Hints {
-    // By the low bits of the birth number. A place is counted with those that had left before.
+    // Indexed by the low bits of the birth number. A place here also counts the creatures that had left before.
     seen: Vec<u32>,
     left: u32,
 }
@@ -20,7 +20,7 @@ impl Hints {
         }
     }
 
-    /// Makes the table large enough for the entries and more of them, if there is memory; it serves without.
+    /// Makes the table large enough for the entries and `more` others, if there is memory. If not, the old one serves.
     pub(crate) fn make_room(&mut self, entries: &VecDeque<(u64, u64)>, more: usize) {
         let slots = entries.len().saturating_add(more).saturating_mul(2);
         if slots <= self.seen.len() {

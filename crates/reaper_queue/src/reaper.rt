@@ -14,7 +14,7 @@ use std::collections::VecDeque;
 use std::marker::Model;
 use tierra_model::OutOfMemory;
 
-/// The queue of the living, of whom the topmost die first. Errors move a creature up, and good moves down.
+/// The queue of the living; the topmost die first. Errors move a creature up, and good moves down.
 #[derive(Drop)]
 pub struct Reaper {
     // From the top, each with its error count.
@@ -23,7 +23,7 @@ pub struct Reaper {
 }
 
 impl Model for Reaper {
-    ghost use Rattle.std.specs.Prelude.{◌-◌, ◌<◌, ◌≤◌, ◌^◌, ℕ, min};
+    ghost use Rattle.std.specs.Prelude.{◌-◌, ◌<◌, ◌≤◌, ◌^◌, min};
     ghost use Rattle.std.specs.VecDeque.{deque_len, deque_capacity};
     ghost use Rattle.reaper_queue.specs.Reaper.{ReaperFields};
     ghost use Rattle.reaper_queue.specs.Standing.{IsOnce};
@@ -90,8 +90,8 @@ impl Reaper {
         self.entries.push_back_reserved((id, errors));
     }
 
-    /// Counts an error of the creature, which then changes places with the one above it, unless there is none or that
-    /// one has more errors.
+    /// Counts an error of the creature, which then changes places with the one above it, unless it is at the top or
+    /// the one above has more errors.
     pub fn error(&mut self, id: u64)
         requires present { 0 < times_in (ids_of self.old.entries) id }
         requires small { errors_in id self.old.entries < COUNT_END }
@@ -104,8 +104,8 @@ impl Reaper {
         move_up(&mut self.entries, &mut self.hints, id, place);
     }
 
-    /// A good move: the creature changes places with the one below it, unless there is none or it has more errors than
-    /// that one.
+    /// A good move: the creature changes places with the one below it, unless there is none or the creature has more
+    /// errors than the one below.
     pub fn good(&mut self, id: u64)
         requires present { 0 < times_in (ids_of self.old.entries) id }
         ensures entries { self.new.entries ≡ good_move (is_of id) errors_of self.old.entries }
@@ -115,7 +115,7 @@ impl Reaper {
         move_down(&mut self.entries, &mut self.hints, id, place);
     }
 
-    /// Takes a creature out, whose room is then free again.
+    /// Takes a creature out; its room is then free again.
     pub fn remove(&mut self, id: u64)
         requires present { 0 < times_in (ids_of self.old.entries) id }
         ensures entries { self.new.entries ≡ filter (λ x. not (x.0 == id)) self.old.entries }
@@ -161,7 +161,7 @@ impl Reaper {
         })
     }
 
-    // Where the creature stands: where the hints say, or else where a walk from the top finds it.
+    // Where the creature stands: the place that the hints give, or else the one that a walk from the top finds.
     fn find_place(&mut self, id: u64) -> usize
         requires { 0 < times_in (ids_of self.old.entries) id }
         ensures here { StandsAt self.old.entries id result }
@@ -196,7 +196,7 @@ fn place_of(entries: &VecDeque<(u64, u64)>, id: u64) -> Option<usize>
     entries.iter().position(|entry| entry.0 == id)
 }
 
-// The creature changes places with the one above it, unless there is none or that one has more errors.
+// The creature changes places with the one above it, unless it is at the top or the one above has more errors.
 fn move_up(entries: &mut VecDeque<(u64, u64)>, hints: &mut Hints, id: u64, place: usize)
     requires here { StandsAt entries.old.items id place }
     requires small { deque_len entries.old < 2 ^ 32 }
@@ -209,7 +209,7 @@ fn move_up(entries: &mut VecDeque<(u64, u64)>, hints: &mut Hints, id: u64, place
     }
 }
 
-// The creature changes places with the one below it, unless there is none or it has more errors than that one.
+// The creature changes places with the one below it, unless there is none or the creature has more errors.
 fn move_down(entries: &mut VecDeque<(u64, u64)>, hints: &mut Hints, id: u64, place: usize)
     requires here { StandsAt entries.old.items id place }
     requires small { deque_len entries.old < 2 ^ 32 }

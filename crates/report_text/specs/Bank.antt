@@ -11,7 +11,7 @@ use Rattle.tierra_model.specs.declared.genebank.Saved.{Saved}
 use Rattle.tierra_model.specs.Groups.{GroupFields}
 use Rattle.genotyper.specs.Names.{name_text}
 
--- the name, and the quantum that saved it
+-- the name, and the quantum in which it was saved
 abbrev pub saved_line : Name → ℕ → List ℕ
 saved_line name quantum = codes "saved " ++ name_text name ++ codes " " ++ decimal quantum ++ codes "\n"
 
@@ -23,7 +23,7 @@ abbrev pub effort_line : List ℕ → Option Effort → List ℕ
 effort_line label (Some e) = label ++ codes " " ++ decimal e.ran ++ codes " " ++ decimal e.moved ++ codes "\n"
 effort_line label None = label ++ codes " none\n"
 
--- form One has no efforts
+-- a group of form One has no lines of efforts
 abbrev pub efforts_lines : Form → Saved → List ℕ
 efforts_lines form.One s = []
 efforts_lines form.Two s = effort_line (codes "first") s.first ++ effort_line (codes "second") s.second
@@ -39,7 +39,7 @@ genotype_text f quantum s = saved_line s.name quantum ++ parent_line s.parent ++
 abbrev pub group_text : GroupFields → List ℕ
 group_text g = flat_map (genotype_text g.form g.quantum) g.saved
 
--- those of each saved genotype of each group, in order
+-- the lines of each saved genotype of each group, in order
 abbrev pub bank_text : List GroupFields → List ℕ
 bank_text groups = flat_map group_text groups
 

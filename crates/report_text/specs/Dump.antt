@@ -1,4 +1,4 @@
--- The dump of a world: all that it is, as text.
+-- The dump of a world: everything in it, as text.
 use Rattle.std.specs.Prelude.{ℕ, List, [], ◌∷◌, ◌++◌, ◌-◌, ◌*◌, ◌==◌, Option, Some, None, codes, drop, if◌then◌else◌, length, map, replicate, take}
 use Rattle.std.specs.Fmt.{decimal}
 use Rattle.std.specs.Int.{div_ceil}
@@ -28,7 +28,7 @@ body_text c =
     codes "creature " ++ decimal c.id ++ codes " at " ++ decimal c.own.at ++ codes " size " ++ decimal c.own.size
     ++ codes " daughter " ++ daughter_text c.daughter ++ codes " moved " ++ decimal c.moved ++ codes " "
 
--- its processor but for the stack, and its errors
+-- its processor without the stack, and its errors
 abbrev pub registers_text : Creature → List ℕ
 registers_text c =
     processor_text c ++ codes " sp " ++ decimal c.sp ++ codes " flag " ++ decimal c.flag ++ codes " errors " ++ decimal c.errors
@@ -61,12 +61,12 @@ place_text at = replicate (7 - length (decimal at)) 48 ++ decimal at
 abbrev pub cell_text : ℕ → List ℕ
 cell_text v = codes " " ++ encode_lower (v ∷ [])
 
--- the number of the first cell of a row, and its cells; nothing where all of them are 0
+-- the number of the first cell of a row, and its cells; nothing if all of them are 0
 abbrev pub row_line : ℕ → List ℕ → List ℕ
 row_line first cells =
     if list_all (λ v. v == 0) cells then [] else place_text first ++ codes ":" ++ flat_map cell_text cells ++ codes "\n"
 
--- the line of row k, which has 32 cells, or those that are left
+-- the line of row k, which has 32 cells, or fewer at the end of the soup
 abbrev pub row_of : List ℕ → ℕ → List ℕ
 row_of soup k = row_line (32 * k) (take 32 (drop (32 * k) soup))
 
@@ -76,7 +76,7 @@ row_lines soup = flat_map (row_of soup) (range_with_len 0 (div_ceil (length soup
 
 -- ---- the state
 
--- the digest of all that the world is
+-- the digest of the world's state bytes
 abbrev pub state_line : World → List ℕ
 state_line w = codes "state " ++ encode_lower (sha256 (state_bytes w)) ++ codes "\n"
 

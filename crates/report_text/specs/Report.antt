@@ -8,7 +8,7 @@ use Rattle.tierra_model.specs.World.{World, genotype_at}
 use Rattle.genotyper.specs.Names.{name_text}
 use Rattle.world_core.specs.Running.{number_with}
 
--- the name, how many live and how many ever lived; nothing where nobody lives
+-- the name, how many live and how many ever lived; nothing if none live
 abbrev pub genotype_line : List ℕ → ℕ → ℕ → List ℕ
 genotype_line name living total =
     if living == 0 then [] else name ++ codes " " ++ decimal living ++ codes " " ++ decimal total ++ codes "\n"
@@ -17,7 +17,7 @@ genotype_line name living total =
 abbrev pub line_of : World → ℕ → List ℕ
 line_of w k = genotype_line (name_text (name_of w.genotypes k)) (number_with w.living k) (genotype_at w.genotypes k).total
 
--- the head, the numbers of genotypes and of saved ones, and a line for each genotype that lives, in the order of first birth
+-- the head, how many genotypes there are and how many are saved, and a line for each living genotype by first birth
 abbrev pub report : World → List ℕ
 report w =
     report_head w ++ codes "genotypes " ++ decimal (length w.genotypes) ++ codes "\nkept " ++ decimal (length w.saved) ++ codes "\n"

@@ -1,7 +1,6 @@
 //! The texts of a genebank.
 
-ghost use Rattle.std.specs.Prelude.{◌≡◌, ◌++◌, List, ℕ, codes, IfOk, OnOk};
-ghost use Rattle.std.specs.Fmt.{decimal};
+ghost use Rattle.std.specs.Prelude.{◌≡◌, ◌++◌, IfOk, OnOk};
 ghost use Rattle.genotyper.specs.Names.{name_text};
 ghost use Rattle.report_text.specs.Bank.{bank_text, code_line, effort_line, genotype_text, group_text, parent_line, saved_line};
 
@@ -9,7 +8,7 @@ use genotyper::name_text;
 use std::alloc::Global;
 use tierra_model::{Code, Effort, Form, Group, Groups, Name, OutOfMemory, Saved, Text};
 
-/// The line of a genotype that was saved in the quantum.
+/// The line of a genotype that was saved in this quantum.
 pub fn saved_line(alloc: Global, saved: &Saved, quantum: u64) -> Result<Text, OutOfMemory>
     ensures { IfOk result (λ text. text ≡ saved_line saved.now.name quantum) }
 {
@@ -18,8 +17,8 @@ pub fn saved_line(alloc: Global, saved: &Saved, quantum: u64) -> Result<Text, Ou
     Ok(Text { items })
 }
 
-/// What a genebank says: for each saved genotype its line, its parent, in a group of form Two what its first daughters
-/// cost, and its code.
+/// The text of a genebank: for each saved genotype its line, its parent, what its first and second daughters cost (only
+/// in a group of form Two), and its code.
 pub fn bank_text(alloc: Global, groups: &Groups) -> Result<Text, OutOfMemory>
     ensures { IfOk result (λ text. text ≡ bank_text groups.now) }
 {

@@ -8,7 +8,7 @@ use std::test::Fail;
 use tierra_model::{Code, EventList, Inoculum, Now, SeedList, Settings, Setup};
 use world_core::World;
 
-/// A creature in the last three of 100 cells, of which row 96 has four.
+/// A creature in the last three of 100 cells. The last row begins at cell 96 and has four cells.
 const ONE: &str = "quanta 0
 births 0
 deaths 0
@@ -24,7 +24,7 @@ reaper 1
 state 924bee840a8c955c8d4259e540903f4ff1f00c6201178079c09920c2a8325a92
 ";
 
-/// Two creatures, of whom the first has had its turn.
+/// Two creatures. The first has had its turn.
 const TWO: &str = "quanta 1
 births 0
 deaths 0

@@ -1,5 +1,5 @@
-//! The lines of a genebank by the example of one genotype.
-ghost use Rattle.std.specs.Prelude.{◌≡◌, ◌∷◌, [], ℕ, Option, None, Some, IfOk};
+//! The lines of a genebank, tested on one genotype.
+ghost use Rattle.std.specs.Prelude.{◌≡◌, ◌∷◌, [], Option, None, Some, IfOk};
 ghost use Rattle.tierra_model.specs.Groups.{IsSaved};
 
 use super::*;

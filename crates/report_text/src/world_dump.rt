@@ -1,6 +1,6 @@
 //! The dump of a world.
 
-ghost use Rattle.std.specs.Prelude.{◌≡◌, ◌==◌, ◌++◌, ◌<◌, codes, IfOk, OnOk, drop, length, slice_index, string_bytes, take};
+ghost use Rattle.std.specs.Prelude.{◌≡◌, ◌==◌, ◌++◌, ◌<◌, IfOk, OnOk, drop, length, slice_index, string_bytes, take};
 ghost use Rattle.std.specs.List.{flat_map, list_all};
 ghost use Rattle.tierra_model.specs.Living.{one_of};
 ghost use Rattle.tierra_model.specs.Sound.{IsSound};
@@ -14,11 +14,11 @@ use std::fmt::Write;
 use tierra_model::{Block, Creature, Now, OutOfMemory, Text};
 use world_core::World;
 
-/// The cells of a row.
+/// How many cells a row has.
 const ROW: u32 = 32;
 
-/// All that a world is: its report, the living in the order of their turns, the reaper queue from its top, each row of
-/// the soup that is not all 0, and the digest of the world's bytes.
+/// Everything in a world: its report, the living in the order of their turns, the reaper queue from its top, each row
+/// of the soup that is not all 0, and the digest of the world's bytes.
 pub fn dump(alloc: Global, world: &World) -> Result<Text, OutOfMemory>
     ensures { IfOk result (λ text. text ≡ dump world.now.world) }
 {
@@ -43,7 +43,7 @@ fn add_creatures(alloc: Global, text: &mut Vec<u8>, world: &World) -> Result<(),
     Ok(())
 }
 
-// Who runs after so many more quanta, if nobody is born or dies.
+// The creature at a place of the slicer queue.
 fn creature_at(world: &World, k: u32) -> &Creature
     requires sound { IsSound world.now.world }
     requires within { k < length world.now.world.slicer }
@@ -155,7 +155,7 @@ fn add_rows(alloc: Global, text: &mut Vec<u8>, world: &World, size: u32) -> Resu
     Ok(())
 }
 
-// The cells of the row that begins there: 32, or those that are left.
+// The cells of the row that begins there: 32, or fewer at the end of the soup.
 fn cells_from(alloc: Global, world: &World, first: u32, size: u32) -> Result<Vec<u8>, OutOfMemory>
     requires size { length world.now.world.soup ≡ size }
     requires within { first < size }
@@ -215,7 +215,7 @@ fn add_cell(line: &mut String, cell: u8) -> Result<(), OutOfMemory>
 
 // ---- the state
 
-/// The digest of all that a world is: `state` and the SHA-256 of its state bytes, in lower-case hexadecimal digits.
+/// The digest line of a world: `state` and the SHA-256 of its state bytes, in lower-case hexadecimal digits.
 pub fn state_line(alloc: Global, world: &World) -> Result<Text, OutOfMemory>
     ensures { IfOk result (λ text. text ≡ state_line world.now.world) }
 {

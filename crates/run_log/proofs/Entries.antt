@@ -192,7 +192,7 @@ point-at records entries seen quantum i is same point within =
     subst (λ rs. take i rs ≡ up_to quantum rs) here
     (take-map note i seen ∙ ap (map note) (sym (filter-before passes seen i point within)) ∙ sym (filter-map (λ (r : Record). nat_le (quantum_of r) quantum) note seen))
 
--- the counts after so many records
+-- the counts after k records
 pub point-before : (v : LogFields) (entries : List Entry) (after : ℕ) (e d : Entry) → IsKept v.inoculated entries → records_of entries ≡ v.records → 0 < after
     → after ≤ length entries → e ≡ get_or entries (after - 1) d → e.point ≡ point_of v.inoculated (take after v.records)
 point-before v entries after e d k is some within at =

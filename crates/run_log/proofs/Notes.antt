@@ -14,7 +14,7 @@ use Rattle.run_log.proofs.Numbers.{range-past, times_in-fewer}
 use Rattle.run_log.proofs.Entries.{living-push}
 use Rattle.run_log.proofs.Runs.{filter-one, range-more}
 
--- records of a quantum behind others of it or of those before it
+-- records of a quantum after others of it or of those before it
 pub order-births : (q : ℕ) (before now : List Record) (ids : List ℕ) → All (λ r. quantum_of r ≤ q) before → now ≡ before ++ map (λ k. Birth q k) ids → All (λ r. quantum_of r ≤ q) now
 order-births q before now ids order is =
     subst (All (λ r. quantum_of r ≤ q)) (sym is)

@@ -16,7 +16,7 @@ use Rattle.run_log.specs.declared.record.Record.TheVariants.{Birth, Death}
 abbrev pub lives : World → ℕ → Bool
 lives w id = nat_lt 0 (times_in (ids_of w.living) id)
 
--- the birth numbers given out
+-- the birth numbers given out in the quantum
 abbrev pub born_in : World → World → List ℕ
 born_in v w = range_with_len v.next_birth (w.next_birth - v.next_birth)
 
@@ -24,7 +24,7 @@ born_in v w = range_with_len v.next_birth (w.next_birth - v.next_birth)
 abbrev pub lived_in : World → World → List ℕ
 lived_in v w = ids_of v.living ++ born_in v w
 
--- those of them who do not live after it
+-- those who lived before or were born, and do not live after the quantum
 abbrev pub dead_in : World → World → List ℕ
 dead_in v w = filter (λ id. not (lives w id)) (lived_in v w)
 
@@ -41,7 +41,7 @@ run_records setup n = flat_map (λ k. records_in (k + 1) (serial setup k) (seria
 abbrev pub counts_of : World → Point
 counts_of w = record { living = length w.living; births = w.births; deaths = w.deaths }
 
--- the multiples of every up to n, and n
+-- whether the quantum is a multiple of `every`, or n itself
 abbrev pub is_shown : ℕ → ℕ → ℕ → Bool
 is_shown n every quantum = (quantum % every == 0) || (quantum == n)
 

@@ -5,7 +5,8 @@ use Rattle.run_log.specs.declared.log.Point.{Point}
 use Rattle.run_log.specs.declared.record.Record.{Record}
 use Rattle.run_log.specs.declared.record.Record.TheVariants.{Birth, Death}
 
--- what contracts see of a log: how many live before its records, the records, and how many more need no memory
+-- what contracts see of a log: how many live before its records, the records, and how many more can be noted without
+-- memory
 pub record LogFields : Type 0 where
   pub inoculated : ℕ
   pub records : List Record
@@ -35,7 +36,7 @@ after_record living (Death quantum id) = filter (λ x. not (x == id)) living
 abbrev pub living_in : ℕ → List Record → List ℕ
 living_in inoculated records = fold after_record (range_with_len 1 inoculated) records
 
--- the records counted
+-- the counts after the records
 abbrev pub point_of : ℕ → List Record → Point
 point_of inoculated records =
     record { living = length (living_in inoculated records); births = count_by is_birth records; deaths = count_by is_death records }

@@ -27,7 +27,7 @@ struct Entry {
     point: Point,
 }
 
-/// The births and deaths of a run, in the order in which they were.
+/// The births and deaths of a run, in the order in which they happened.
 #[derive(Drop)]
 pub struct Log {
     inoculated: u64,
@@ -35,7 +35,7 @@ pub struct Log {
 }
 
 impl Model for Log {
-    ghost use Rattle.std.specs.Prelude.{◌-◌, map, vec_capacity, vec_len};
+    ghost use Rattle.std.specs.Prelude.{◌-◌, vec_capacity, vec_len};
     ghost use Rattle.run_log.specs.Records.{LogFields};
     ghost use Rattle.run_log.specs.Entries.{IsKept, records_of};
 
@@ -113,14 +113,14 @@ impl Log {
         });
     }
 
-    /// The counts after the last record of quantum `quantum` or before it.
+    /// The counts after all records of this quantum and of earlier ones.
     pub fn at(&self, quantum: u64) -> Point
         ensures { result ≡ point_of self.now.inoculated (up_to quantum self.now.records) }
     {
         self.point_before(entries_up_to(&self.entries, quantum))
     }
 
-    /// The records in their order.
+    /// How many records there are.
     pub fn len(&self) -> usize
         ensures { result ≡ length self.now.records }
     {
@@ -142,7 +142,7 @@ impl Log {
         self.point_before(self.entries.len())
     }
 
-    // The counts after so many records.
+    // The counts after the first `after` records.
     fn point_before(&self, after: usize) -> Point
         requires { after ≤ length self.now.records }
         ensures { result ≡ point_of self.now.inoculated (take after self.now.records) }
@@ -158,7 +158,7 @@ impl Log {
     }
 }
 
-// How many of the entries are of the quantum or of one before it.
+// How many entries are of this quantum or an earlier one.
 fn entries_up_to(entries: &[Entry], quantum: u64) -> usize
     requires { IsNonDecreasingBy (λ (e : Entry). quantum_of e.note) entries.now }
     ensures within { result ≤ length entries.now }

@@ -51,7 +51,7 @@ fn log_of_run(alloc: Global, setup: &Setup, quanta: u64) -> Result<Log, OutOfMem
 }
 
 // Runs the next quantum, which has this number, and notes who is born and who dies in it. `living` are those who live
-// before it, and the answer is who lives after it.
+// before it, and the answer is those who live after it.
 fn note_quantum(
     alloc: Global,
     log: &mut Log,
@@ -91,7 +91,7 @@ fn count_of(setup: &Setup) -> u64
     seeds.items.len() as u64
 }
 
-// The numbers from 1 on.
+// The numbers from 1 to `count`.
 fn numbers(alloc: Global, count: u64) -> Result<Vec<u64>, OutOfMemory>
     requires { count < COUNT_END }
     ensures { IfOk result (λ v. v.items ≡ range_with_len 1 count) }
@@ -103,7 +103,7 @@ fn numbers(alloc: Global, count: u64) -> Result<Vec<u64>, OutOfMemory>
     Ok(items)
 }
 
-// Notes the births of the quantum, who got the numbers from `first` to below `next`; `living` are those who live.
+// Notes the births of the quantum, which have the numbers from `first` to below `next`, and adds them to `living`.
 fn note_births(
     log: &mut Log,
     living: &mut Vec<u64>,
@@ -128,7 +128,7 @@ fn note_births(
     Ok(())
 }
 
-// Notes the deaths of the quantum, of which there were so many, among those who lived; the answer is who lives in the world.
+// Notes the deaths of the quantum among those who lived; the answer is those who still live in the world.
 fn note_deaths(
     alloc: Global,
     log: &mut Log,
@@ -153,7 +153,7 @@ fn note_deaths(
     note_each_death(alloc, log, &living, run, quantum)
 }
 
-// Notes the deaths of the quantum, among those who lived; the answer is who lives in the world.
+// Does the same, by looking each of them up in the world.
 fn note_each_death(
     alloc: Global,
     log: &mut Log,

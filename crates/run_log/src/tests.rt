@@ -50,7 +50,7 @@ at = 95
 code = "dec_c"
 "#;
 
-/// The creature's second request kills the daughter that the same quantum brought.
+/// The creature's second request kills the daughter that was born in the same quantum.
 const HARSH: &str = r#"
 soup_size = 100
 mal_mult = 4

@@ -27,7 +27,7 @@ commits-go_on by (suc k) b =
     let h : GoesOn b (after_commits by k b) = commits-go_on by k b in
     record { setup = h.setup; quanta = h.quanta; window = h.window; stopped = h.stopped; committed = omega (arith, h.committed) }
 
--- the book after an offer that commits so many
+-- the book after an offer that commits k quanta
 pub offer-goes_on : (by k : ℕ) (f : Finding) (b : BookFields) → GoesOn b (after_commits by k (with_finding f b))
 offer-goes_on by k f b =
     let h : GoesOn (with_finding f b) (after_commits by k (with_finding f b)) = commits-go_on by k (with_finding f b) in

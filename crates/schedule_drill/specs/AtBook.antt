@@ -1,4 +1,4 @@
--- The hands at a book.
+-- What always holds of a drill: of its book and its hands.
 use Rattle.std.specs.Prelude.{All, None, Option, Some, false, length, ℕ, ◌+◌, ◌≡◌, ◌≤◌}
 use Rattle.tierra_model.specs.Findings.{Finding}
 use Rattle.commit_book.specs.Book.{BookFields}

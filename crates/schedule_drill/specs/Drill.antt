@@ -1,4 +1,4 @@
--- What comes of a schedule: a fold over its moves.
+-- The result of a schedule: a fold over its moves.
 use Rattle.std.specs.Prelude.{Bool, List, None, Option, Some, [], count_by, false, if◌then◌else◌, is_some, nat_le, nat_lt, replicate, slice_index_or, slice_set, true, ℕ, ◌+◌, ◌-◌, ◌==◌, ◌∷◌}
 use Rattle.tierra_model.specs.declared.history.Entry.{Entry}
 use Rattle.tierra_model.specs.declared.history.How.TheVariants as how
@@ -111,7 +111,7 @@ is_missing e = elim e.how [ how.Fresh ↦ false | how.Missing ↦ true | how.Sta
 abbrev pub is_stale : Entry → Bool
 is_stale e = elim e.how [ how.Fresh ↦ false | how.Missing ↦ false | how.Stale difference ↦ true ]
 
--- how the quanta were committed, by the history, and the answers beside
+-- how many quanta were committed each way, by the history, and how many answers there were of each kind
 abbrev pub tally_of : DrillFields → Tally
 tally_of d =
     record {

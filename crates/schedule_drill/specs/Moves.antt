@@ -10,7 +10,7 @@ use Rattle.schedule_drill.specs.declared.moves.Move.TheVariants as move
 abbrev pub seed_of : ℕ → List ℕ
 seed_of number = to_be_bytes w64 number ++ replicate 24 0
 
--- of eight kinds three claim, two offer, and one each repeats, loses and advances
+-- of the eight kinds three claim, two offer, and one each repeat, lose and advance
 abbrev pub move_of_kind : ℕ → ℕ → Move
 move_of_kind kind hand =
     if nat_lt kind 3 then move.Claim hand
@@ -31,7 +31,7 @@ number_of_moves quanta = 4 * min quanta 100000
 abbrev pub moves_from : ℕ → ℕ → List Move
 moves_from number quanta = map (λ k. move_of (word (seed_of number) 0 k)) (range_with_len 0 (number_of_moves quanta))
 
--- the move is of one of the four hands
+-- the hand that moves; IsOfHand: it is one of the four
 abbrev pub hand_of : Move → ℕ
 hand_of (move.Claim hand) = hand
 hand_of (move.Offer hand) = hand

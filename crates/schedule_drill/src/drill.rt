@@ -1,4 +1,4 @@
-//! Schedules are played.
+//! Plays schedules.
 
 ghost use Rattle.std.specs.Prelude.{◌≡◌, ◌+◌, ◌-◌, ◌<◌, ◌≤◌, ◌^◌, [], All, IfOk, OnOk, Some};
 ghost use Rattle.tierra_model.specs.declared.limits.TheConstants.{MOST_QUANTA};
@@ -29,7 +29,7 @@ pub struct Played {
     pub tally: Tally,
 }
 
-// The hands at a book.
+// A drill under way: its book, what its hands hold, and the answers so far.
 #[derive(Drop)]
 struct Drill {
     book: Book,
@@ -49,7 +49,8 @@ impl Model for Drill {
     ghost invariant = { λ d. IsAtBook (record { book = d.book; hands = d.hands.items; answered = d.answered }) };
 }
 
-/// Plays the moves in order and then advances the book to its end. Whatever the moves, its world is that of the serial run.
+/// Plays the moves in order and then advances the book to its end. Whatever the moves, its world is then the serial
+/// run's.
 pub fn play(
     alloc: Global,
     setup: Setup,
@@ -289,7 +290,7 @@ impl Drill {
     }
 }
 
-// Does nothing: the world of a book has the settings of its setup.
+// Does nothing. Its contract says that a book's world has the settings of its setup.
 fn keeps_settings(book: &Book)
     ensures same { (world_of book.now).settings ≡ book.now.setup.settings }
     ensures most { book.now.committed ≤ book.now.quanta }

@@ -1,6 +1,6 @@
 //! The moves of a schedule.
 
-ghost use Rattle.std.specs.Prelude.{◌≡◌, ◌≤◌, ◌<◌, All, IfOk};
+ghost use Rattle.std.specs.Prelude.{◌≡◌, ◌<◌, All, IfOk};
 ghost use Rattle.schedule_drill.specs.Moves.{IsOfHand, hand_of, move_of, moves_from, seed_of};
 
 use rand_chacha::ChaCha8Rng;
@@ -40,7 +40,7 @@ impl Model for MoveList {
     ghost view = { λ m. m.items.items };
 }
 
-/// Moves are made for so many quanta at most.
+/// Moves are made for this many quanta at most.
 const MOST_QUANTA: u64 = 100_000;
 
 /// The moves that a number stands for: four for each quantum, each of one of the four hands.
@@ -57,7 +57,7 @@ pub fn moves_from(alloc: Global, number: u64, quanta: u64) -> Result<MoveList, O
     Ok(MoveList { items })
 }
 
-// The number in eight bytes, and 24 of 0.
+// The number in eight bytes, and 24 bytes of 0.
 fn seed_of(number: u64) -> [u8; 32]
     ensures { result ≡ seed_of number }
 {

@@ -26,11 +26,12 @@ pub struct Answered {
     pub twice: u64,
     pub late: u64,
     pub full: u64,
-    /// Claims of a hand that is not empty, moves of an empty hand, and calls of a book that has ended.
+    /// Claims by a hand that is not empty, offers, repeats and losses by an empty hand, and claims and advances of a
+    /// book that has ended.
     pub idle: u64,
 }
 
-/// How many quanta were committed by a finding that agreed, with none, and in place of a stale one.
+/// How many quanta were committed by a finding that agreed, without a finding, and in place of a stale one.
 #[derive(Clone, Copy, Drop)]
 pub(crate) struct Ways {
     pub(crate) fresh: u64,

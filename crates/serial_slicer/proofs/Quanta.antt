@@ -58,7 +58,7 @@ quantum-put c w k f h =
       few_quanta = k.few_quanta;
     }
 
--- ---- so many instructions of a quantum
+-- ---- the first instructions of a quantum
 
 pub run-in_quantum : (w : World) (k : ℕ) → IsSound w → w.quanta < MOST_QUANTA → k ≤ 10000 → InQuantum (run world_machine w.settings (w.quanta + 1) k w)
 run-in_quantum w k s more few =

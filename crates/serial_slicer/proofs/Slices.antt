@@ -1,4 +1,4 @@
--- The slice of a sound world: what holds of it after so many instructions, with the record kept out of the world.
+-- The slice of a sound world: what holds of it after i instructions, with the record kept out of the world.
 use Rattle.std.proofs.Common.{◌≡◌, ℕ, zero, suc, ◌+◌, ◌*◌, ◌/◌, ◌<◌, ◌≤◌, Bool, true, false, refl, sym, ◌∙◌, ap, subst, arith, length}
 use Rattle.std.specs.Prelude.{None, Option, Some, slice_index}
 use Rattle.tierra_model.specs.declared.limits.TheConstants.{COUNT_END, MOST_QUANTA}

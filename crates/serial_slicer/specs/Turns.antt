@@ -1,4 +1,4 @@
--- A world in a quantum, and the record of the creature that runs, which is kept out of it.
+-- A world during a quantum, and the record of the creature that runs, which is kept apart from it.
 use Rattle.std.specs.Prelude.{◌+◌, Option, length, ℕ, ◌<◌, ◌≡◌}
 use Rattle.tierra_model.specs.declared.limits.TheConstants.{COUNT_END, MOST_QUANTA}
 use Rattle.tierra_model.specs.declared.creatures.Block.{Block}
@@ -20,14 +20,14 @@ pub record IsSole (h : WorldFields) : Type 0 where
   pub size : length h.world.soup ≡ h.world.settings.soup_size
   pub ready : AllReady h
 
--- The record c of the creature at the front, whose turn it is, may differ in its registers and counts from the one that
--- the world has; cells may be set in its blocks.
+-- c is the record of the creature at the front, whose turn it is. It may differ in its registers and counts from the
+-- record in the world; cells may be set in its blocks.
 pub record IsTurn (c : Creature) (v : SoleFields) : Type 0 where
   pub shares : Shares (front v.world) c
   pub own : v.own ≡ c.own
   pub daughter : v.daughter ≡ c.daughter
 
--- The world is within the quantum that runs: what each event keeps holds of it, and one more of each count can be added.
+-- The world is within the quantum that runs: it satisfies what every event preserves, and each count can grow by one.
 pub record InQuantum (w : World) : Type 0 where
   pub settings : Settings
   pub errors : ℕ

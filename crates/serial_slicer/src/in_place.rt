@@ -15,8 +15,8 @@ use step_count::Steps;
 use tierra_model::{Creature, OutOfMemory};
 use world_core::World;
 
-/// A world that runs on in place, one quantum after another, for a caller that looks at it between quanta. Where a quantum
-/// found no memory it has stopped in the middle, and the world is of no use any more.
+/// A world that runs on in place, one quantum after another, for a caller that looks at it between quanta. If a quantum
+/// finds no memory it stops in the middle, and the world is then useless.
 #[derive(Drop)]
 pub struct InPlace {
     sole: Sole,
@@ -31,7 +31,7 @@ impl Model for InPlace {
 }
 
 impl InPlace {
-    /// The world, of which nobody has a version.
+    /// Makes the world ready to run in place: all its cells can then be set.
     pub fn of(world: World) -> Result<InPlace, OutOfMemory>
         ensures { IfOk result (λ r. r ≡ world.world) }
     {
@@ -41,7 +41,7 @@ impl InPlace {
         })
     }
 
-    /// The number of the creature whose turn it is.
+    /// The birth number of the creature whose turn it is.
     pub fn first(&self) -> u64
         requires { IsSound self.now }
         ensures { result ≡ first_of self.now.slicer }
@@ -95,7 +95,7 @@ impl InPlace {
     }
 }
 
-// The next quantum, with an account of the instructions that only contracts see.
+// Runs the next quantum, with a count of the instructions that only contracts see.
 fn counted_next<L: Ledger>(alloc: Global, sole: &mut Sole, blank: Blank) -> Result<(), OutOfMemory>
     requires sound { IsSound sole.old.world }
     requires more { sole.old.world.quanta < MOST_QUANTA }

@@ -1,4 +1,4 @@
-//! A run of one creature at a time, in place.
+//! Runs of a world in place, one creature at a time.
 #![tactic(auto)]
 
 mod in_place;
@@ -37,7 +37,7 @@ pub fn run_on(alloc: Global, world: World, n: u64) -> Result<World, OutOfMemory>
     counted::<Brand>(alloc, world, n, Blank::new(1))
 }
 
-// The same, with an account of the instructions that only contracts see.
+// The world after `n` more quanta, with a count of the instructions that only contracts see.
 fn counted<L: Ledger>(
     alloc: Global,
     world: World,

@@ -11,7 +11,7 @@ ghost use Rattle.serial_slicer.specs.Turns.{InQuantum};
 use crate::sole::Sole;
 use tierra_model::{Block, OutOfMemory};
 
-/// A `mal` whose request passed: the daughter block is given up, others die until there is room, and the block is taken.
+/// A `mal` whose request passed: the daughter block is given up, others die until there is room, and a block is taken.
 pub(crate) fn mal(sole: &mut Sole, size: u32) -> Result<(), OutOfMemory>
     requires within { InQuantum sole.old.world }
     requires one { 1 ≤ size }
@@ -22,7 +22,7 @@ pub(crate) fn mal(sole: &mut Sole, size: u32) -> Result<(), OutOfMemory>
     make_room(sole, size)
 }
 
-// A daughter block that is held is given up.
+// The daughter block is given up, if one is held.
 fn give_up(sole: &mut Sole) -> Result<(), OutOfMemory>
     requires { InQuantum sole.old.world }
     ensures { OnOk result (sole.new.world ≡ give_up world_machine sole.old.world.settings sole.old.world) }
@@ -33,7 +33,7 @@ fn give_up(sole: &mut Sole) -> Result<(), OutOfMemory>
     Ok(())
 }
 
-// Others die until there is room, and the block is taken; where nobody is left and there is no room, it errs.
+// Others die until there is room, and the block is taken; if nobody else is left and there is no room, the caller errs.
 fn make_room(sole: &mut Sole, size: u32) -> Result<(), OutOfMemory>
     requires within { InQuantum sole.old.world }
     requires none { (front sole.old.world).daughter ≡ None }

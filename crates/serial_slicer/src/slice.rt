@@ -47,7 +47,7 @@ pub(crate) fn run_quantum<L: Ledger>(
     Ok(())
 }
 
-// Where the disturbance is due, so many in a hundred of the living die, but never the creature whose turn it is.
+// If the disturbance is due, `dist_percent` percent of the living die, but never the creature whose turn it is.
 fn disturb(sole: &mut Sole, settings: &Settings) -> Result<(), OutOfMemory>
     requires within { InQuantum sole.old.world }
     requires settings { settings.now ≡ sole.old.world.settings }
@@ -84,7 +84,7 @@ fn reap_times(sole: &mut Sole, times: u64) -> Result<(), OutOfMemory>
     Ok(())
 }
 
-// One instruction of the creature whose turn it is, on its record, which is kept out of the world.
+// One instruction of the creature whose turn it is, on its record, which is kept apart from the world.
 fn instruction<L: Ledger>(
     alloc: Global,
     creature: &mut Creature,
@@ -119,8 +119,8 @@ fn instruction<L: Ledger>(
     }
 }
 
-// A `mal` of the creature whose turn it is, whose record is put into the world and taken out anew. (The copies of the
-// record stand here and in `breed`, so that an instruction without them pays for none.)
+// A `mal` of the creature whose turn it is. Its record is put into the world before and read back after. (The record is
+// copied only here and in `breed`, so that other instructions do not pay for it.)
 fn grow(creature: &mut Creature, sole: &mut Sole, size: u32) -> Result<(), OutOfMemory>
     requires within { IsRunning sole.old.world }
     requires fits { RecordFits (front sole.old.world) creature.old }
@@ -138,7 +138,7 @@ fn grow(creature: &mut Creature, sole: &mut Sole, size: u32) -> Result<(), OutOf
     Ok(())
 }
 
-// A divide of the creature whose turn it is, likewise.
+// A divide of the creature whose turn it is, with its record put into the world and read back likewise.
 fn breed(alloc: Global, creature: &mut Creature, sole: &mut Sole) -> Result<(), OutOfMemory>
     requires within { IsRunning sole.old.world }
     requires fits { RecordFits (front sole.old.world) creature.old }

@@ -1,4 +1,4 @@
-//! A world of which nobody has a version.
+//! A world that shares no page with a version of its soup.
 
 ghost use Rattle.std.specs.Prelude.{◌≡◌, ◌==◌, ◌<◌, ◌^◌, ◌≤◌, IfOk, IsSome, OnOk, find, length, option_copied, slice_index};
 ghost use Rattle.tierra_model.specs.declared.limits.TheConstants.{MOST_SIZE};
@@ -21,7 +21,7 @@ use std::marker::Model;
 use tierra_model::{Block, Creature, OutOfMemory, Settings, View};
 use world_core::Running;
 
-/// A running world that is nowhere else, so all its cells can be set: in the blocks of the creature whose turn it is.
+/// A running world that shares no page, so all its cells are ready. A turn sets cells in its creature's blocks.
 #[derive(Drop)]
 pub(crate) struct Sole {
     running: Running,
@@ -89,7 +89,7 @@ impl View for Sole {
 }
 
 impl Sole {
-    /// Makes all cells of a world ready, of which nobody has a version.
+    /// Makes all cells of a world ready.
     pub(crate) fn new(running: Running) -> Result<Sole, OutOfMemory>
         requires { length running.world.soup ≡ running.world.settings.soup_size }
         ensures { IfOk result (λ s. s.world ≡ running.world) }

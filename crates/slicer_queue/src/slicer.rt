@@ -85,7 +85,7 @@ impl Slicer {
         self.ids.rotate_left(1);
     }
 
-    /// Takes a creature out, whose room is then free again.
+    /// Takes a creature out; its room is then free again.
     pub fn remove(&mut self, id: u64)
         requires { 0 < times_in self.old.ids id }
         ensures ids { self.new.ids ≡ filter (λ x. not (x == id)) self.old.ids }

@@ -5,7 +5,7 @@ use Rattle.soup_cells.specs.declared.soup.Paging.{Paging}
 use Rattle.soup_cells.specs.declared.soup.Paging.TheVariants.{Own, Shared, Uncut}
 use Rattle.soup_cells.specs.Soup.{SoupFields}
 
--- the cells of the pages, where they are cut
+-- the cells of the pages, if the cells are cut into pages
 abbrev pub cells_in : Paging → Option (List ℕ)
 cells_in Uncut = None
 cells_in (Own pages) = Some pages.cells
@@ -15,7 +15,7 @@ cells_in (Shared pages) = Some (arc_value pages).cells
 abbrev pub AreIn : List ℕ → Paging → Type 0
 AreIn row paging = IfSome (cells_in paging) (λ cells. cells ≡ row)
 
--- for each page of the row whether it is the soup's own: all are that are not cut, and none that are shared
+-- for each page of the row, whether it is the soup's own: all are if they are not cut, and none if they are shared
 abbrev pub own_of : List ℕ → Paging → List Bool
 own_of row Uncut = replicate ((length row + 16383) / 16384) true
 own_of row (Own pages) = pages.own

@@ -6,6 +6,6 @@ pub record SoupFields : Type 0 where
   pub cells : List ℕ
   pub own : List Bool
 
--- the cell can be set
+-- the cell is ready: it can be set without memory
 unfoldable pub is_ready : SoupFields → ℕ → Bool
 is_ready soup at = slice_index_or soup.own (at / 16384) false

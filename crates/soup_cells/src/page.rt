@@ -11,10 +11,10 @@ use tierra_model::OutOfMemory;
 /// How many cells a page has. The last of a soup may have fewer.
 pub const PAGE: u32 = 16384;
 
-/// The same, as an index counts.
+/// `PAGE` as an index.
 pub(crate) const PAGE_LEN: usize = PAGE as usize;
 
-/// A page of a soup: its own, so that its cells can be set, or one that versions have too.
+/// A page of a soup: the soup's own, so that its cells can be set, or one that versions have too.
 #[derive(Drop)]
 pub(crate) enum Page {
     Own(Vec<u8>),
@@ -82,7 +82,7 @@ impl Page {
         Ok(())
     }
 
-    /// Makes the page the soup's own. The cells are copied only where a version has the page still.
+    /// Makes the page the soup's own. The cells are copied only if a version still has the page.
     pub(crate) fn make_own(&mut self) -> Result<(), OutOfMemory>
         ensures cells { page_cells self.new ≡ page_cells self.old }
         ensures ok { OnOk result (is_own self.new ≡ true) }

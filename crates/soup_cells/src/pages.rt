@@ -14,7 +14,7 @@ use tierra_model::OutOfMemory;
 pub(crate) struct Pages {
     size: u32,
     pages: Vec<Page>,
-    // the pages that are not shared. One that finds no room here is copied in time, and no more than that.
+    // the pages that are not shared. A page that finds no room here stays unshared, so `copy` copies its cells.
     unshared: Vec<usize>,
 }
 
@@ -108,7 +108,7 @@ impl Pages {
         self.size
     }
 
-    /// The cells of a page of 16384, of which the last may have fewer.
+    /// The cells of a page: 16384, or fewer on the last page.
     pub(crate) fn page(&self, number: u32) -> &[u8]
         requires { 16384 * number < length self.now.cells }
         ensures cells { result.now ≡ slice_range self.now.cells (16384 * number)
@@ -118,7 +118,7 @@ impl Pages {
         self.pages[number as usize].cells()
     }
 
-    /// Makes all pages shared, so that a copy copies no cell.
+    /// Makes the pages in `unshared` shared, so that a copy copies none of their cells.
     pub(crate) fn share(&mut self) -> Result<(), OutOfMemory>
         ensures { self.new.cells ≡ self.old.cells }
     {
@@ -127,7 +127,7 @@ impl Pages {
         Ok(())
     }
 
-    /// The same cells once more. The pages that are shared are not copied.
+    /// Pages with the same cells. Those that are shared are not copied.
     pub(crate) fn copy(&self) -> Result<Pages, OutOfMemory>
         ensures { IfOk result (λ p. p.cells ≡ self.now.cells) }
     {
@@ -141,7 +141,7 @@ impl Pages {
     }
 }
 
-// Notes the number of a page that is shared and will not be.
+// Notes the number of a page that is shared, before it is made the soup's own.
 fn note_shared(unshared: &mut Vec<usize>, pages: &[Page], number: usize) {
     if let Some(Page::Shared(_)) = pages.get(number) {
         let _noted: Result<_, _> = unshared.push(number);

@@ -7,7 +7,7 @@ use std::alloc::Global;
 use std::marker::Model;
 use tierra_model::OutOfMemory;
 
-/// Cells in one row, of which nobody has a version.
+/// Cells in one row, which no version shares.
 #[derive(Drop)]
 pub(crate) struct Row {
     cells: Vec<u8>,

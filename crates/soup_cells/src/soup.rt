@@ -1,6 +1,6 @@
 //! The soup.
 
-ghost use Rattle.std.specs.Prelude.{◌≡◌, ◌<◌, ℕ, IfErr, List, IfOk, OnOk, Some, length, replicate, slice_index, slice_set, false, true};
+ghost use Rattle.std.specs.Prelude.{◌≡◌, ◌<◌, ℕ, IfErr, List, IfOk, OnOk, Some, length, replicate, slice_index, slice_set, true};
 ghost use Rattle.std.specs.Arc.{arc_value};
 ghost use Rattle.soup_cells.specs.Soup.{is_ready};
 ghost use Rattle.soup_cells.specs.Paging.{AreIn, cells_in, has_own, is_cut, soup_of};
@@ -21,8 +21,8 @@ pub struct Soup {
     paging: Paging,
 }
 
-/// The same cells in pages, which versions share. The first version cuts them, and from then on each cell is set in the
-/// row and in its page. The soup takes the pages back to set a cell.
+/// The same cells in pages, which versions share. The first version cuts the cells into pages, and from then on each
+/// cell is set in the row and in its page. To set a cell, the soup takes the pages back.
 #[derive(Drop)]
 pub(crate) enum Paging {
     Uncut,
@@ -103,8 +103,8 @@ impl Soup {
         }
     }
 
-    /// The cells as they are now, for good. Afterwards none need be ready. The first version copies the cells, and no
-    /// other copies any.
+    /// The cells as they are now, which the version keeps for good. No cell need be ready afterwards. Only the first
+    /// version copies the cells.
     pub fn version(&mut self) -> Result<Version, OutOfMemory>
         ensures cells { self.new.cells ≡ self.old.cells }
         ensures ok { IfOk result (λ v. v ≡ self.old.cells) }
@@ -126,7 +126,7 @@ fn share(row: &Row, paging: &mut Paging) -> Result<Arc<Pages>, OutOfMemory>
     share_pages(paging)
 }
 
-// The same of pages that are cut. No cell is copied.
+// Makes pages that are cut shared, and gives one more owner of them. No cell is copied.
 fn share_pages(paging: &mut Paging) -> Result<Arc<Pages>, OutOfMemory>
     requires { is_cut paging.old ≡ true }
     ensures cells { cells_in paging.new ≡ cells_in paging.old }
@@ -155,7 +155,7 @@ fn share_pages(paging: &mut Paging) -> Result<Arc<Pages>, OutOfMemory>
 }
 
 #[tactic(auto, unfolding(crate::specs::Soup::is_ready))]
-// Takes the pages back. The list of pages is copied only where a version has it still, and no cell is copied.
+// Takes the pages back. The list of pages is copied only if a version still has it, and cells of shared pages never.
 fn make_own(paging: &mut Paging) -> Result<(), OutOfMemory>
     ensures cells { cells_in paging.new ≡ cells_in paging.old }
     ensures ok { OnOk result (has_own paging.new ≡ true) }
@@ -177,7 +177,7 @@ fn make_own(paging: &mut Paging) -> Result<(), OutOfMemory>
     Ok(())
 }
 
-// Pages that were shared. Without memory they are given back.
+// Pages that were shared, as the soup's own. Without memory they are given back.
 fn taken_back(pages: Arc<Pages>) -> Result<Pages, Arc<Pages>>
     ensures ok { IfOk result (λ p. p.cells ≡ (arc_value pages).cells) }
     ensures err { IfErr result (λ a. (arc_value a).cells ≡ (arc_value pages).cells) }
@@ -247,7 +247,7 @@ mod tests {
         value
     }
 
-    // where set number k writes; 6,000 sets later there is another
+    // where set number k writes; set number k + 6,000 writes there again
     fn place(k: u32) -> u32 {
         k % 6000 * 174
     }

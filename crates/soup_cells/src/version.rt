@@ -45,7 +45,7 @@ impl Version {
         self.pages.size()
     }
 
-    /// The cells of a page of 16384, of which the last may have fewer.
+    /// The cells of a page: 16384, or fewer on the last page.
     pub fn page(&self, number: u32) -> &[u8]
         requires { 16384 * number < length self.now }
         ensures cells { result.now

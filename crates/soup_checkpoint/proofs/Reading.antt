@@ -1,4 +1,4 @@
--- What frames say that were read behind a header.
+-- What frames say that were read after a header.
 use Rattle.std.proofs.Common.{◌≡◌, ◌≢◌, ap, subst, ℕ, ◌+◌, ◌-◌, ◌<◌, ◌≤◌, arith, List, [], ◌∷◌, ◌++◌, length, get_or, Some, None, length-append}
 use Rattle.std.proofs.lemmas.List.{length-drop}
 use Rattle.file_journal.specs.Files.{behind_header}

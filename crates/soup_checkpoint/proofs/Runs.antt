@@ -1,4 +1,4 @@
--- Bytes have one list of frames behind open gates.
+-- Bytes have one list of frames after open gates.
 use Rattle.std.proofs.Common.{◌≡◌, ◌≢◌, ◌∙◌, ◌⊎◌, inl, inr, refl, sym, ap, ap₂, ℕ, List, [], ◌∷◌, ◌++◌, All, append_assoc, append-nil, length}
 use Rattle.std.specs.List.{flat_map}
 use Rattle.std.proofs.lemmas.Grind.{flat_map-append}

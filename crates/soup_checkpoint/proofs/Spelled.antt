@@ -67,7 +67,7 @@ read_back s t x y short_s short_t e =
     let same : s ≡ t = sym p.state ∙ ap (λ (n : ℕ). take n (drop 4 bytes)) len ∙ q.state in
     (same, cancel (spelling s) x y (e ∙ ap (λ (u : List ℕ). spelling u ++ y) (sym same)))
 
--- so long a state, with its length in front and its digest behind
+-- a state of n bytes, with its length before it and its digest after it
 pub begins : (bytes : List ℕ) (n : ℕ) → to_be_bytes w32 n ≡ take 4 bytes → n < 2 ^ 31 → n + 36 < length bytes
     → take 32 (drop (4 + n) bytes) ≡ sha256 (take n (drop 4 bytes)) → BeginsWithFrame bytes n
 unfolding spelling

@@ -15,7 +15,7 @@ use Rattle.soup_checkpoint.specs.declared.owner.Owner.{Owner}
 abbrev pub title : List ℕ
 title = codes "Tierra hold1"
 
--- whose file it is
+-- the owner of a setup's file
 abbrev pub owner_of : SetupFields → Owner
 owner_of setup = record { digest = sha256 (setup_bytes setup); settings = setup.settings }
 
@@ -26,7 +26,7 @@ header_for owner = record { title = title; digest = owner.digest }
 abbrev pub IsOwned : List ℕ → List ℕ → Type 0
 IsOwned image digest = IsTitled title image × (digest_in image ≡ digest)
 
--- behind the header stand frames up to a closed gate, of which the last has this state
+-- after the header there are frames up to a closed gate, and the last frame has this state
 pub record EndsWith (image state : List ℕ) : Type 0 where
   pub earlier : List (List ℕ)
   pub frames : IsClosedAfter (behind_header image) (earlier ++ state ∷ [])
@@ -44,7 +44,7 @@ pub record IsUnsound (image : List ℕ) (owner : Owner) (k : ℕ) : Type 0 where
   pub number : length last.earlier ≡ k
   pub no_state : IsStateOf owner.settings state → ⊥
 
--- What an image says to an owner: the state of its last frame, none where it has no frame, or what is wrong.
+-- What an image says to an owner: the state of its last frame, none if it has no frame, or what is wrong.
 -- Frames are numbered from 0.
 abbrev pub Says : List ℕ → Owner → Result (Option (List ℕ)) HoldFault → Type 0
 Says image owner (Ok None) = IsFresh title image ⊎ (IsOwned image owner.digest × IsClosedAfter (behind_header image) [])

@@ -16,10 +16,10 @@ use Rattle.soup_checkpoint.specs.declared.faults.ShelfFault.{ShelfFault}
 use Rattle.soup_checkpoint.specs.declared.faults.ShelfFault.TheVariants as shelf
 use Rattle.soup_checkpoint.specs.declared.owner.Owner.{Owner}
 
--- What a Shelf says.
+-- What contracts see of a Shelf.
 pub record ShelfState : Type 0 where
   pub owner : Owner
-  -- the place of the closed gate behind the frames
+  -- the place of the closed gate after the frames
   pub gate : ℕ
   -- the bytes of the frame that there is room for
   pub room : Option (List ℕ)
@@ -46,7 +46,7 @@ pub record IsAttached (s : ShelfState) (d : DeskState) : Type 0 where
 abbrev pub Holds : Owner → Option (List ℕ) → List ℕ → Type 0
 Holds owner held image = Says image owner (Ok held)
 
--- the file has this last state, and the closed gate behind its frame stands at this place
+-- the file has this last state, and the closed gate after its frame is at this place
 abbrev pub HoldsUpTo : Owner → ℕ → List ℕ → List ℕ → Type 0
 HoldsUpTo owner gate state file = IsAtRest owner gate file × Holds owner (Some state) file
 
@@ -54,11 +54,11 @@ HoldsUpTo owner gate state file = IsAtRest owner gate file × Holds owner (Some 
 abbrev pub SaysSame : Owner → List ℕ → List ℕ → Type 0
 SaysSame owner was image = (r : Result (Option (List ℕ)) HoldFault) → Says was owner r ↔ Says image owner r
 
--- the image says what one says that a crash might have left at the start, or what the file said that was read then
+-- the image says the same as one that a crash might have left at the start, or as the file that was read then
 abbrev pub SaysAsBefore : Owner → (List ℕ → Type 0) → List ℕ → List ℕ → Type 0
 SaysAsBefore owner may_leave file image = (was : List ℕ) × (may_leave was ⊎ (was ≡ file)) × SaysSame owner was image
 
--- the image says what the file said, or has the new state
+-- the image says what the file said, or holds the new state
 abbrev pub SaysBeforeOrAfter : Owner → List ℕ → List ℕ → List ℕ → Type 0
 SaysBeforeOrAfter owner state file image = SaysSame owner file image ⊎ Holds owner (Some state) image
 
@@ -70,8 +70,8 @@ IsWorldOf owner w = AreBytesOf owner.settings (state_bytes w.world) w.world
 abbrev pub held_of : Option WorldFields → Option (List ℕ)
 held_of world = option_map (λ w. state_bytes w.world) world
 
--- A shelf of this owner was attached, and the world is that of the file as it was read at the start. The file still
--- has it.
+-- A shelf of this owner was attached. The world is the one that the file held when it was read at the start, and the
+-- file still holds it.
 pub record Attaches (owner : Owner) (old new : DeskState) (s : ShelfState) (world : Option WorldFields) : Type 0 where
   pub owner_is : s.owner ≡ owner
   pub world_is : IfSome world (IsWorldOf owner)
@@ -84,25 +84,25 @@ pub record Refuses (owner : Owner) (old new : DeskState) (f : HoldFault) : Type 
   pub says : IfSome old.reads (λ file. Says file owner (Err f))
   pub unwritten : IsUnwritten old new
 
--- The file has the state, and the next gate stands behind its frame.
+-- The state was appended: the file holds it, and the shelf is attached after its frame.
 pub record Appends (was : ShelfState) (state : List ℕ) (old new : DeskState) (s : ShelfState) : Type 0 where
   pub owner_is : s.owner ≡ was.owner
   pub attached : IsAttached s new
   pub held : IfSome old.reads (λ file. IsSomeAnd new.reads (Holds was.owner (Some state)))
 
--- what is wrong is wrong with the file
+-- the fault is one of the file itself
 abbrev pub IsOfFile : HoldFault → Type 0
 IsOfFile (fault.Beyond held) = ⊥
 IsOfFile (fault.TooLarge quantum bytes) = ⊥
 IsOfFile _ = Unit {0}
 
--- at a refusal of the file
+-- P holds of the fault if the file was refused
 abbrev pub IfHoldRefused : ShelfFault → (HoldFault → Type 0) → Type 0
 IfHoldRefused (shelf.Refused f) P = P f
 IfHoldRefused shelf.DiskFault P = Unit {0}
 IfHoldRefused shelf.OutOfMemory P = Unit {0}
 
--- it fails where the disk failed, and only there
+-- the fault is DiskFault exactly if the disk failed
 abbrev pub CountsFault : ShelfFault → DeskState → Type 0
 CountsFault (shelf.Refused f) d = HasNoFault d
 CountsFault shelf.DiskFault d = HasDiskFault d

@@ -1,4 +1,4 @@
-//! Why a checkpoint file is not attached.
+//! Why a checkpoint file could not be attached.
 
 ghost use Rattle.std.specs.Prelude.{◌≡◌};
 ghost use Rattle.soup_checkpoint.specs.declared.faults.ShelfFault.TheVariants.{OutOfMemory, Refused};
@@ -12,18 +12,18 @@ use std::alloc::AllocError;
 pub enum HoldFault {
     /// The file is no checkpoint file.
     NotAHold,
-    /// The file is that of another setup.
+    /// The file belongs to another setup.
     Foreign,
-    /// The frame behind an open gate is not whole, or not as it was written, or it is the last one and has no state of
-    /// the setup. Frames are numbered from 0.
+    /// The frame is not whole or not as it was written, or it is the last one and does not hold a state of the setup.
+    /// Frames are numbered from 0.
     Damaged { frame: u64 },
-    /// The world that is held has run further than is asked for. An attach never says this.
+    /// The world that is held has run further than asked for. An attach never gives this fault.
     Beyond { held: u64 },
-    /// The state of the quantum has too many bytes for a frame. An attach never says this.
+    /// The state of the quantum has too many bytes for a frame. An attach never gives this fault.
     TooLarge { quantum: u64, bytes: u64 },
 }
 
-/// Why a checkpoint file is not attached.
+/// Why a checkpoint file could not be attached.
 #[derive(Clone, Copy, Debug, Drop, PartialEq, Eq)]
 pub enum ShelfFault {
     Refused(HoldFault),

@@ -11,7 +11,7 @@ use std::alloc::{AllocError, Global};
 /// A state has fewer bytes than this.
 const LIMIT: usize = 1 << 31;
 
-/// The bytes of a frame beside its state: the length and the digest.
+/// How many bytes a frame has besides its state: the length and the digest.
 const FRAME_LEN: usize = 36;
 
 /// An open gate. A gate of any other value is closed.
@@ -38,7 +38,7 @@ fn length_in(bytes: &[u8]) -> u32
     u32::from_be_bytes([bytes[0], bytes[1], bytes[2], bytes[3]])
 }
 
-/// So many bytes at a place.
+/// The `len` bytes at a place.
 pub fn piece(bytes: &[u8], at: usize, len: usize) -> &[u8]
     requires { at + len ≤ length bytes.now }
     ensures { result.now ≡ take len (drop at bytes.now) }
@@ -52,7 +52,7 @@ fn is_digest_of(state: &[u8], digest: &[u8]) -> bool
     digest == Sha256::digest(state).as_slice()
 }
 
-// How long the state of the frame is that the bytes begin with. The next gate stands behind it.
+// The length of the state in the frame at the start of the bytes, if there is such a frame and a next gate after it.
 fn state_len(bytes: &[u8]) -> Option<usize>
     ensures found { IfSome result (λ n. BeginsWithFrame bytes.now n) }
     ensures none { IfNone result (NoFrame bytes.now) }
@@ -71,14 +71,14 @@ fn state_len(bytes: &[u8]) -> Option<usize>
     Some(len)
 }
 
-/// Where a state stands.
+/// The place of a state.
 #[derive(Clone, Copy, Debug, Drop, PartialEq, Eq)]
 pub struct Span {
     pub at: usize,
     pub len: usize,
 }
 
-/// Frames that were read: how many, the state of the last one, and the gate behind it.
+/// Frames that were read: how many, the state of the last one, and the gate after it.
 #[derive(Clone, Copy, Debug, Drop, PartialEq, Eq)]
 pub struct Frames {
     pub count: u64,
@@ -86,7 +86,7 @@ pub struct Frames {
     pub gate: usize,
 }
 
-/// The bytes after so many.
+/// The bytes from a place on.
 pub fn after(bytes: &[u8], len: usize) -> &[u8]
     requires { len ≤ length bytes.now }
     ensures { result.now ≡ drop len bytes.now }
@@ -94,7 +94,7 @@ pub fn after(bytes: &[u8], len: usize) -> &[u8]
     &bytes[len..]
 }
 
-// One frame more, behind the open gate.
+// Reads one more frame, after the open gate.
 fn next_frame(bytes: &[u8], frames: Frames) -> Option<Frames>
     requires inside { frames.gate < length bytes.now }
     requires count { frames.count ≤ frames.gate }
@@ -114,8 +114,8 @@ fn next_frame(bytes: &[u8], frames: Frames) -> Option<Frames>
     })
 }
 
-/// The frames behind open gates, from the gate of frame 0 on. At fault is the number of the first frame that is not
-/// whole, or not as it was written.
+/// Reads the frames after open gates, from the gate of frame 0 on. The error is the number of the first frame that is
+/// not whole, or not as it was written.
 pub fn read_frames(bytes: &[u8]) -> Result<Frames, u64>
     requires { 0 < length bytes.now }
     ensures read { IfOk result (λ f. (states : List (List ℕ)) × AreRead bytes.now f states) }

@@ -1,5 +1,5 @@
-//! The file of checkpoints: it holds the states of a run's worlds, one frame for each. The last one is where a run goes
-//! on, and a crash at any moment leaves the last state from before a call or the one that it appends.
+//! The file of checkpoints: it holds states of a run's worlds, one frame for each. A run goes on from the last state. A
+//! crash at any moment of a call leaves the last state from before the call or the one that it appends.
 #![tactic(auto)]
 
 mod faults;

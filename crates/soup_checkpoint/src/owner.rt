@@ -1,4 +1,4 @@
-//! Whose a checkpoint file is.
+//! The owner of a checkpoint file.
 
 ghost use Rattle.std.specs.Prelude.{◌≡◌, IfOk, length};
 ghost use Rattle.file_journal.specs.Files.{IsTitle};
@@ -9,7 +9,7 @@ use file_journal::Header;
 use std::alloc::Global;
 use tierra_model::{OutOfMemory, Settings, Setup};
 
-/// Whose a checkpoint file is: a setup's digest, and its settings.
+/// The owner of a checkpoint file: the digest of a setup, and its settings.
 #[derive(Clone, Copy, Debug, Drop, PartialEq, Eq)]
 pub struct Owner {
     pub digest: [u8; 32],
@@ -27,7 +27,7 @@ impl Owner {
         })
     }
 
-    /// How the owner's file begins.
+    /// The header of the owner's file.
     pub fn header(&self) -> Header
         ensures header { result ≡ header_for self.now }
         ensures title { IsTitle result.title }

@@ -1,6 +1,6 @@
-//! What a checkpoint file that was read holds.
+//! What a checkpoint file holds, from its bytes.
 
-ghost use Rattle.std.specs.Prelude.{◌≡◌, ◌≢◌, ◌<◌, ◌≤◌, List, ℕ, Err, Ok, IfErr, IfOk, IfSome, OnOk, length, slice_index};
+ghost use Rattle.std.specs.Prelude.{◌≢◌, ◌<◌, ◌≤◌, List, ℕ, Err, Ok, IfErr, IfOk, IfSome, OnOk, length, slice_index};
 ghost use Rattle.file_journal.specs.Files.{IsFresh, behind_header};
 ghost use Rattle.soup_checkpoint.specs.Frames.{AreRead};
 ghost use Rattle.soup_checkpoint.specs.Hold.{IsOwned, Says, title};
@@ -13,7 +13,7 @@ use file_journal::{HEADER_LEN, is_titled};
 use std::alloc::Global;
 use world_core::World;
 
-/// The world that a file holds, if any, and the place of the closed gate behind its frames.
+/// The world that a file holds, if any, and the place of the closed gate after its frames.
 #[derive(Drop)]
 pub struct Held {
     pub world: Option<World>,
@@ -81,7 +81,7 @@ fn world_in(
     }
 }
 
-/// What a file holds that is not fresh.
+/// What a file that is not fresh holds.
 pub fn recover(alloc: Global, image: &[u8], owner: &Owner) -> Result<Held, ShelfFault>
     requires long { 45 ≤ length image.now }
     requires not_fresh { IsFresh title image.now → ⊥ }

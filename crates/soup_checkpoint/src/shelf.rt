@@ -1,6 +1,6 @@
 //! A checkpoint file that is attached.
 
-ghost use Rattle.std.specs.Prelude.{◌≡◌, ◌≢◌, ◌+◌, ◌<◌, ◌≤◌, ◌^◌, Err, IfErr, IfOk, IfSome, OnOk, Some, length};
+ghost use Rattle.std.specs.Prelude.{◌≡◌, ◌+◌, ◌<◌, ◌≤◌, ◌^◌, IfErr, IfOk, IfSome, OnOk, Some, length};
 ghost use Rattle.desk_io.specs.Desk.{HasNoFault, IsDiskCall, UsesDisk};
 ghost use Rattle.world_state.specs.Restoring.{IsStateOf};
 ghost use Rattle.file_journal.specs.Files.{ClosesAfter, IsBeforeOrAfter, IsFresh, with_record};
@@ -20,14 +20,14 @@ use std::marker::Model;
 use tierra_model::{Code, OutOfMemory, Setup};
 use world_core::World;
 
-/// A checkpoint file over the file of a desk. It keeps no state in memory but the one that it has room for.
+/// A checkpoint file in the file of a desk. It keeps no state in memory but the one it is about to append.
 #[derive(Drop)]
 pub struct Shelf {
     alloc: Global,
     owner: Owner,
-    // The place of the closed gate behind the frames.
+    // The place of the closed gate after the frames.
     gate: u64,
-    // The next frame.
+    // The next frame, once there is room for it.
     room: Option<Room>,
 }
 
@@ -46,7 +46,7 @@ impl Model for Shelf {
     ghost invariant = { λ s. (length s.owner.digest ≡ 32) × (s.gate ≤ 2 ^ 62) };
 }
 
-// A shelf of this owner, with the gate behind its frames at this place.
+// A shelf of this owner, with the gate after its frames at this place.
 fn shelf_at(alloc: Global, owner: Owner, gate: u64) -> Shelf
     requires most { gate ≤ 2 ^ 62 }
     requires digest { length owner.digest ≡ 32 }
@@ -61,7 +61,7 @@ fn shelf_at(alloc: Global, owner: Owner, gate: u64) -> Shelf
     }
 }
 
-// A shelf of the owner's file.
+// Attaches the owner's file.
 fn attach_for<D: Desk>(
     alloc: Global,
     desk: &mut D,
@@ -69,8 +69,8 @@ fn attach_for<D: Desk>(
 ) -> Result<(Shelf, Option<World>), ShelfFault>
     requires sound { HasNoFault (D.state desk.old) }
     ensures attached { IfOk result (λ x. Attaches owner (D.state desk.old) (D.state desk.new) x.0 x.1) }
-    ensures refused { IfErr result (λ e. IfHoldRefused e (Refuses owner (D.state desk.old) (D.state desk.new))) }
-    ensures kinds { IfErr result (λ e. IfHoldRefused e IsOfFile) }
+    ensures refused { IfErr result (λ e. IfHoldRefused e (λ f. IsOfFile f
+        × Refuses owner (D.state desk.old) (D.state desk.new) f)) }
     ensures kept { OnOk result (IfSome (D.state desk.old).reads (λ file. (IsFresh title file → ⊥)
         → IsUnwritten (D.state desk.old) (D.state desk.new))) }
     ensures quiet { IfSome (D.state desk.old).reads (λ file. (IsFresh title file → ⊥)
@@ -119,7 +119,7 @@ fn write_state<D: Desk>(desk: &mut D, shelf: &Shelf, state: &Code) -> Result<(),
 }
 
 impl Shelf {
-    // The shelf behind one frame more.
+    // The shelf after one more frame.
     fn grown(self, state: &Code) -> Shelf
         requires room { self.room ≡ Some (spelling state.now) }
         requires most { self.gate + 1 + length (spelling state.now) < 2 ^ 62 }
@@ -134,8 +134,8 @@ impl Shelf {
         shelf
     }
 
-    /// Makes what was written of the file durable, and reads it: the world of its last frame, and none where it has no
-    /// frame. A file that is none yet is made one. A file that is refused is not written.
+    /// Makes the file durable as it was written, and reads it: the world of its last frame, or none if it has no frame.
+    /// A fresh file is made a checkpoint file. A file that is refused is not written.
     pub fn attach<D: Desk>(
         alloc: Global,
         desk: &mut D,
@@ -143,21 +143,20 @@ impl Shelf {
     ) -> Result<(Shelf, Option<World>), ShelfFault>
         requires sound { HasNoFault (D.state desk.old) }
 
-        // The world is that of the file as it was read at the start. A refusal says what is wrong with that file.
+        // The world is that of the file as it was read at the start. A refusal gives what is wrong with that file.
         ensures attached { IfOk result
             (λ x. Attaches (owner_of setup.now) (D.state desk.old) (D.state desk.new) x.0 x.1) }
-        ensures refused { IfErr result
-            (λ e. IfHoldRefused e (Refuses (owner_of setup.now) (D.state desk.old) (D.state desk.new))) }
-        ensures kinds { IfErr result (λ e. IfHoldRefused e IsOfFile) }
+        ensures refused { IfErr result (λ e. IfHoldRefused e (λ f. IsOfFile f
+            × Refuses (owner_of setup.now) (D.state desk.old) (D.state desk.new) f)) }
 
-        // A file that is there is not written, nor is one that is refused, at any moment and whatever comes.
+        // A file that is not fresh is never written, whatever the outcome.
         ensures kept { OnOk result (IfSome (D.state desk.old).reads (λ file. (IsFresh title file → ⊥)
             → IsUnwritten (D.state desk.old) (D.state desk.new))) }
         ensures quiet { IfSome (D.state desk.old).reads (λ file. (IsFresh title file → ⊥)
             → UsesDisk (D.state desk.old) (D.state desk.new) (D.state desk.old).may_leave) }
 
-        // A crash at any moment leaves what says the same as a file that a crash might have left at the start, or as
-        // the one that was read then.
+        // A crash at any moment leaves an image that says the same as one that a crash might have left at the start, or
+        // as the file that was read then.
         ensures moments { UsesDisk (D.state desk.old) (D.state desk.new)
             (IfTold (D.state desk.old) (SaysAsBefore (owner_of setup.now) (D.state desk.old).may_leave)) }
         ensures cause { CountsFaults result (D.state desk.new) }
@@ -166,7 +165,7 @@ impl Shelf {
         attach_for(alloc, desk, owner)
     }
 
-    /// Takes the memory that it needs to append this state. Room that was made for another one is gone.
+    /// Takes the memory that appending this state needs. Room made for another state before is given up.
     pub fn make_room(&mut self, state: &Code) -> Result<(), OutOfMemory>
         requires short { length state.now < 2 ^ 31 }
         requires sound { IsStateOf self.old.owner.settings state.now }
@@ -186,7 +185,7 @@ impl Shelf {
         requires room { HasRoomFor self state.now }
         ensures appended { IfOk result (Appends self state.now (D.state desk.old) (D.state desk.new)) }
 
-        // A crash at any moment leaves what says the same as the file before, or what holds the new state.
+        // A crash at any moment leaves an image that says the same as the file before, or one that holds the new state.
         ensures call { IsDiskCall (D.state desk.old) (D.state desk.new) result
             (IfTold (D.state desk.old) (SaysBeforeOrAfter self.owner state.now)) }
     {

@@ -42,7 +42,7 @@ fn first_setup(alloc: Global) -> Result<Setup, OutOfMemory> {
     })
 }
 
-// The same, with the creature at cell 6.
+// The same setup, with the creature at cell 6.
 fn second_setup(alloc: Global) -> Result<Setup, OutOfMemory> {
     let settings = first_setup(alloc)?.settings;
     let code = two_cells(alloc)?;
@@ -65,7 +65,7 @@ fn check_state(alloc: Global, settings: &Settings, bytes: &[u8]) -> Result<(), F
     Ok(())
 }
 
-// The bytes as a state, of which they must be one.
+// The bytes as a state, which they must be.
 fn state_of_bytes(alloc: Global, settings: &Settings, items: Vec<u8>) -> Result<Code, Fail>
     ensures state { IfOk result (IsStateOf settings.now) }
     ensures short { IfOk result (λ code. length code < 2 ^ 31) }
@@ -331,8 +331,8 @@ fn a_gate_is_opened_behind_a_durable_frame(rt: HostRuntime) -> Result<(), Fail> 
     Ok(())
 }
 
-// What a crash leaves of the two states, where all calls fail from one on: how many were appended, and how many are
-// held.
+// What a crash leaves of the two states, if all calls fail from a given one on: how many were appended, and how many
+// are held.
 fn stopped(alloc: Global, stop: u64, pick: u32) -> Result<(usize, usize), Fail>
     requires { pick < 4 }
 {

@@ -31,7 +31,7 @@ before-lesser name first (Some other) h k = elim (slice_cmp nat_cmp first other)
   | Greater ↦ k
 ]
 
--- the names of the entries behind, which pass the test
+-- the names of the later entries, which pass the test
 before-rest : (test : List ℕ → Bool) (k : String Global) (es : List Entry) → AllByRecursion (λ y. string_cmp k y ≡ Less) (map_keys es)
     → Before (string_bytes k) (least (filter test (keys_of (members_view es))))
 unfolding Before

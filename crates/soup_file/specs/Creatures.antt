@@ -17,7 +17,7 @@ use Rattle.soup_file.specs.declared.key.KeyFault.{KeyFault}
 use Rattle.soup_file.specs.declared.key.KeyFault.TheVariants.{Missing, OutOfRange, WrongKind}
 use Rattle.soup_file.specs.Keys.{file_fault, in_a_creature, number_in, read_at, text_in, unknown_key}
 
--- the tables that items are, if each is one
+-- the items as tables, if each is one
 abbrev pub and_tables : Option Members → Option (List Members) → Option (List Members)
 and_tables None rest = None
 and_tables (Some first) None = None
@@ -39,7 +39,7 @@ tables_from (Some items) = some_tables (tables_of items)
 abbrev pub tables_in : Data → Result (List Members) FileFault
 tables_in value = tables_from (as_array value)
 
--- the tables of the creatures, of which there is one at least
+-- the tables of the creatures, at least one
 unfoldable pub creature_tables : Members → Result (List Members) FileFault
 creature_tables document = read_at Creature tables_in (Err NoCreature) document
 
@@ -81,7 +81,7 @@ abbrev pub past_end : ℕ → Option Inoculum → Option FileFault
 past_end size None = None
 past_end size (Some c) = if nat_lt size (c.at + length c.code) then Some (file_fault (OutOfRange At)) else None
 
--- each of the two begins before the other ends
+-- the two share a cell: each begins before the other ends
 abbrev pub share_a_cell : Inoculum → Inoculum → Bool
 share_a_cell c d = nat_lt c.at (d.at + length d.code) && nat_lt d.at (c.at + length c.code)
 
@@ -90,12 +90,12 @@ do_share (Some c) (Some d) = share_a_cell c d
 do_share (Some c) None = false
 do_share None d = false
 
--- the first of the creatures before with which the creature shares a cell
+-- the fault of a creature that shares a cell with earlier ones; it names the first of them
 abbrev pub overlap : ℕ → List (Option Inoculum) → Option Inoculum → Option FileFault
 overlap number earlier creature =
     option_map (λ place. Overlap (place + 1) number) (position (λ other. do_share other creature) earlier)
 
--- the checks of a creature that is alone, in order, each with its fault if it fails
+-- the checks of a creature by itself, in order, each with its fault if it fails
 unfoldable pub own_checks : ℕ → ℕ × Members → List (Option FileFault)
 own_checks size (number, creature) =
     unknown_key in_a_creature (At ∷ Code ∷ []) creature
@@ -104,7 +104,7 @@ own_checks size (number, creature) =
     ∷ past_end size (inoculum_of size (number, creature))
     ∷ []
 
--- the checks of a creature after others
+-- the checks of a creature that comes after others
 abbrev pub creature_checks : ℕ → List (Option Inoculum) → ℕ × Members → List (Option FileFault)
 creature_checks size earlier (number, creature) =
     own_checks size (number, creature) ++ overlap number earlier (inoculum_of size (number, creature)) ∷ []

@@ -38,7 +38,7 @@ name_of Creature = codes "creature"
 name_of At = codes "at"
 name_of Code = codes "code"
 
--- what stands before the names of a creature's keys in a fault
+-- the prefix of the names of a creature's keys in a fault
 abbrev pub in_a_creature : List ℕ
 in_a_creature = codes "creature."
 
@@ -66,7 +66,7 @@ abbrev pub number_from : Key → ℕ → ℕ → Option ℤ → Result ℕ KeyFa
 number_from key low high None = Err (WrongKind key)
 number_from key low high (Some z) = in_range key low high z
 
--- the number in its range that a value is
+-- the number that a value is, if it is in its range
 unfoldable pub number_in : Key → ℕ → ℕ → Data → Result ℕ KeyFault
 number_in key low high value = number_from key low high (as_integer value)
 
@@ -78,12 +78,12 @@ abbrev pub decoded : Key → Result (List ℕ) FromHexError → Result (List ℕ
 decoded key (Ok bytes) = Ok bytes
 decoded key (Err e) = Err (OutOfRange key)
 
--- 64 hexadecimal digits of either case, each two of which are a byte
+-- 64 hexadecimal digits of either case, two for each byte
 abbrev pub bytes_from : Key → Option (List ℕ) → Result (List ℕ) KeyFault
 bytes_from key None = Err (WrongKind key)
 bytes_from key (Some text) = decoded key (decode_sized text 32)
 
--- the 32 bytes that a value tells
+-- the 32 bytes that a value spells
 unfoldable pub bytes_in : Key → Data → Result (List ℕ) KeyFault
 bytes_in key value = bytes_from key (as_str value)
 
@@ -95,7 +95,7 @@ abbrev pub read_or : {V E : Type 0} → (Data → Result V E) → Result V E →
 read_or read absent None = absent
 read_or read absent (Some value) = read value
 
--- what is read at a key; where nothing stands there, the other answer
+-- what is read at a key, or the answer absent if the table lacks the key
 unfoldable pub read_at : {V E : Type 0} → Key → (Data → Result V E) → Result V E → Members → Result V E
 read_at key read absent document = read_or read absent (get_member (name_of key) document)
 
@@ -108,7 +108,7 @@ keys_of (member k d ms) = k ∷ keys_of ms
 unfoldable pub names_one_of : List Key → List ℕ → Bool
 names_one_of keys name = list_any (λ key. bytes_eq name (name_of key)) keys
 
--- the least of some names, by their bytes
+-- the lesser of two names, and the least of a list, by their bytes
 abbrev pub lesser : List ℕ → Option (List ℕ) → List ℕ
 lesser name None = name
 lesser name (Some other) = if is_lt (slice_cmp nat_cmp name other) then name else other
@@ -117,15 +117,15 @@ abbrev pub least : List (List ℕ) → Option (List ℕ)
 least [] = None
 least (name ∷ names) = Some (lesser name (least names))
 
--- the least key of a table that is none of these
+-- the least of a table's keys that are not known
 unfoldable pub unknown_in : List Key → Members → Option (List ℕ)
 unknown_in keys members = least (filter (λ name. not (names_one_of keys name)) (keys_of members))
 
--- its fault
+-- the fault of the least unknown key, if there is one
 abbrev pub unknown_key : List ℕ → List Key → Members → Option FileFault
 unknown_key before keys members = option_map (λ name. fault.UnknownKey (before ++ name)) (unknown_in keys members)
 
--- the first fault of some checks, each of which has its own if it fails
+-- the first fault in a list of checks, each of which gives its fault if it fails
 abbrev pub first_fault : {F : Type 0} → List (Option F) → Option F
 first_fault [] = None
 first_fault (None ∷ checks) = first_fault checks

@@ -8,20 +8,20 @@ use Rattle.soup_file.specs.declared.key.Key.TheVariants.{At, Code, Creature}
 use Rattle.soup_file.specs.Keys.{name_of}
 use Rattle.soup_file.specs.SoupFile.{IsDocument, IsFaultOf, IsSoupFile}
 
--- bytes tell one setup at most, and none where they have a fault
+-- bytes spell at most one setup and have at most one fault, and never both
 pub record SoupFilesAreClear : Type 0 where
   pub one_setup : (bytes : List ℕ) (one other : SetupFields) → IsSoupFile bytes one → IsSoupFile bytes other → one ≡ other
   pub one_fault : (bytes : List ℕ) (one other : FileFault) → IsFaultOf bytes one → IsFaultOf bytes other → one ≡ other
   pub no_fault : (bytes : List ℕ) (setup : SetupFields) (fault : FileFault) → IsSoupFile bytes setup → IsFaultOf bytes fault → ⊥
 
--- the document of one creature at 0 with this listing, and of nothing else
+-- the document with one creature at 0 with this listing, and nothing else
 abbrev pub one_creature : List ℕ → Members
 one_creature text =
     member (name_of Creature)
     (array (item (table (member (name_of At) (integer (pos 0)) (member (name_of Code) (string text) no_members))) no_items))
     no_members
 
--- Its bytes have the setup that `grow` makes of the listing, and no other.
+-- The bytes of that document spell the setup that `grow` makes from the listing, and no other.
 pub record OneCreatureIsGrown : Type 0 where
   pub is_grown : (bytes text code : List ℕ) → IsDocument bytes (one_creature text) → listing_of text ≡ Ok code
       → IsSoupFile bytes (setup_for code)

@@ -103,7 +103,7 @@ setting_checks document =
     ∷ crossed (min_cell_of document) (max_cell_of document)
     ∷ []
 
--- the settings that a document tells
+-- the settings of a document
 pub record AreSettingsOf (document : Members) (settings : Settings) : Type 0 where
   pub soup_size : soup_size_of document ≡ Ok settings.soup_size
   pub slice_size : slice_size_of document ≡ Ok settings.slice_size

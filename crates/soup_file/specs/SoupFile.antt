@@ -1,4 +1,4 @@
--- What a soup file says, and what is wrong with bytes that are none.
+-- The setup that a soup file spells, and the fault of bytes that are no soup file.
 use Rattle.std.specs.Prelude.{ℕ, ◌≡◌, ◌⊎◌, List, [], ◌∷◌, ◌++◌, IsUtf8, map, option_map, Option, Some, None, Result, Ok, Err}
 use Rattle.std.specs.Result.{result_err}
 use Rattle.toml.specs.Data.{Members}
@@ -36,7 +36,7 @@ checks_of document =
     ++ result_err (creature_tables document)
     ∷ checks_of_tables (soup_size_of document) (creature_tables document))
 
--- the document tells the setup
+-- the document spells the setup
 pub record IsSetupOf (document : Members) (setup : SetupFields) : Type 0 where
   pub creatures : List Members
   pub passes : first_fault (checks_of document) ≡ None

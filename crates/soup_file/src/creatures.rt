@@ -16,7 +16,7 @@ use tierra_model::{Code, Inoculum, SeedList};
 use toml::Table;
 use toml::value::Array;
 
-/// The tables of the creatures, of which there is one at least.
+/// The tables of the creatures, at least one.
 #[tactic(auto, using(crate::proofs::Tables::some_tables_are), unfolding(crate::specs::Creatures::creature_tables, crate::specs::Keys::read_at))]
 pub(crate) fn creature_tables<'a>(
     alloc: Global,
@@ -56,7 +56,7 @@ fn tables_of<'a>(alloc: Global, items: &'a Array) -> Result<Vec<&'a Table>, File
     Ok(tables)
 }
 
-/// The creatures of the tables.
+/// The creatures that the tables spell.
 pub(crate) fn read_creatures(
     alloc: Global,
     tables: &[&Table],
@@ -167,7 +167,7 @@ fn read_code(alloc: Global, number: u32, table: &Table) -> Result<Code, FileFaul
     }
 }
 
-// The place of the first of some creatures that shares a cell with one.
+// The place in the list of the first creature that shares a cell with this one.
 fn first_sharing(creatures: &[Inoculum], creature: &Inoculum) -> Option<usize>
     ensures { result ≡ position (λ other. share_a_cell other creature.now) creatures.now }
 {

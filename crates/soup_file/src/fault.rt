@@ -7,27 +7,27 @@ use std::alloc::{AllocError, AllocFailed};
 use tierra_asm::AsmFault;
 use tierra_model::Text;
 
-/// Why bytes are no soup file: the first check that fails. A key of a creature is told as `creature.at`. Creatures are
-/// counted from 1.
+/// Why bytes are no soup file: the first check that fails. A key of a creature is named like `creature.at`. Creatures
+/// are counted from 1.
 #[derive(Debug, Drop, PartialEq, Eq)]
 pub enum FileFault {
     /// The bytes are no TOML document.
     NotToml,
-    /// The table of settings, or that of a creature, has a key that is not known. Of several it is the least.
+    /// The document, or the table of a creature, has this unknown key. Of several, this is the least.
     UnknownKey { key: Text },
-    /// What stands at the key is of another kind.
+    /// The value at the key has the wrong type.
     WrongKind { key: Text },
-    /// What stands at the key is not in its range.
+    /// The value at the key is not in its range.
     OutOfRange { key: Text },
     /// A creature lacks the key.
     Missing { key: Text },
     /// The listing of a creature has no code.
     Listing { creature: u32, fault: AsmFault },
-    /// The second creature has a cell of the first.
+    /// The second creature shares a cell with the first.
     Overlap { first: u32, second: u32 },
     /// There is no creature.
     NoCreature,
-    /// Want of memory.
+    /// Memory ran out.
     OutOfMemory,
 }
 

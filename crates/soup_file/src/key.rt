@@ -68,7 +68,7 @@ impl Key {
         }
     }
 
-    // What stands before the name in a fault.
+    // The prefix of the name in a fault.
     #[tactic(auto, unfolding(crate::specs::Keys::table_of))]
     fn table(self) -> &'static str
         ensures { result.now ≡ table_of self }
@@ -96,7 +96,7 @@ pub(crate) enum KeyFault {
 }
 
 impl KeyFault {
-    /// The fault of the file.
+    /// The fault of the file, which names the key.
     pub(crate) fn in_file(self, alloc: Global) -> FileFault
         ensures { (result ≡ FileFault.OutOfMemory) ⊎ (result ≡ file_fault self) }
     {

@@ -40,7 +40,7 @@ const KEYS: [Key; 20] = [
 
 /// The setup of a soup file, or the fault of the first check that fails.
 ///
-/// A soup file is a TOML document with the settings that are not to have their defaults, and an array of tables
+/// A soup file is a TOML document with settings, which have defaults where they are left out, and an array of tables
 /// `creature`, each with the place `at` and the listing `code`. The checks are made in this order: the document, its
 /// keys, the settings in their order, `max_cell` against `min_cell`, the array, and then each creature in turn: its
 /// keys, its place, its listing, its end, and the creatures before it.

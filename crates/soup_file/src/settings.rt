@@ -14,7 +14,7 @@ use tierra_model::{
 };
 use toml::Table;
 
-/// The settings of a document, which stand at its keys or have their defaults.
+/// The settings of a document: the values at its keys, or their defaults.
 #[tactic(auto, unfolding(crate::specs::Settings::setting_checks))]
 pub(crate) fn read_settings(document: &Table) -> Result<Settings, KeyFault>
     ensures settings { IfOk result (λ settings. AreSettingsOf (table_view document.now) settings) }

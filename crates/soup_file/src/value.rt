@@ -21,7 +21,7 @@ pub(crate) fn look_up<'a>(table: &'a Table, key: Key) -> Option<&'a Value>
     table.get(key.name())
 }
 
-/// The number in its range that stands at a key, or its default.
+/// The number at a key, which must be in its range, or its default if the key is missing.
 #[tactic(auto, unfolding(crate::specs::Keys::read_at))]
 pub(crate) fn number_at(table: &Table, key: Key, number: Number) -> Result<u32, KeyFault>
     requires { (number.least ≤ number.default) × (number.default ≤ number.greatest) }
@@ -35,7 +35,7 @@ pub(crate) fn number_at(table: &Table, key: Key, number: Number) -> Result<u32, 
     }
 }
 
-/// The number in its range that must stand at a key.
+/// The number at a key, which must be there and in its range.
 #[tactic(auto, unfolding(crate::specs::Keys::read_at))]
 pub(crate) fn required_number_at(
     table: &Table,
@@ -73,7 +73,7 @@ fn in_range(key: Key, low: u32, high: u32, number: i64) -> Result<u32, KeyFault>
     Ok(number as u32)
 }
 
-/// The truth value that stands at a key, or the default.
+/// The truth value at a key, or the default.
 #[tactic(auto, unfolding(crate::specs::Keys::read_at))]
 pub(crate) fn flag_at(table: &Table, key: Key, default: bool) -> Result<bool, KeyFault>
     ensures { result ≡ read_at key (flag_in key) (Ok default) (table_view table.now) }
@@ -84,7 +84,7 @@ pub(crate) fn flag_at(table: &Table, key: Key, default: bool) -> Result<bool, Ke
     }
 }
 
-/// The 32 bytes whose digits stand at a key, or the default.
+/// The 32 bytes whose digits are at a key, or the default.
 #[tactic(auto, unfolding(crate::specs::Keys::read_at))]
 pub(crate) fn bytes_at(table: &Table, key: Key, default: [u8; 32]) -> Result<[u8; 32], KeyFault>
     ensures { result ≡ read_at key (bytes_in key) (Ok default) (table_view table.now) }
@@ -108,7 +108,7 @@ fn bytes_in(value: &Value, key: Key) -> Result<[u8; 32], KeyFault>
     }
 }
 
-/// The text that must stand at a key.
+/// The text at a key, which must be there.
 #[tactic(auto, unfolding(crate::specs::Keys::read_at))]
 pub(crate) fn text_at<'a>(table: &'a Table, key: Key) -> Result<&'a str, KeyFault>
     ensures text { IfOk result (λ text.
@@ -122,7 +122,7 @@ pub(crate) fn text_at<'a>(table: &'a Table, key: Key) -> Result<&'a str, KeyFaul
     }
 }
 
-/// Looks for a key of a table that is none of these. In the fault its name has more text before it.
+/// Checks that a table has only known keys. The fault names the least unknown key, with `before` as its prefix.
 pub(crate) fn check_keys(
     alloc: Global,
     table: &Table,

@@ -13,7 +13,7 @@ use Rattle.tierra_model.specs.Quantum.{quantum}
 use Rattle.tierra_model.specs.Sound.{IsSound}
 use Rattle.tierra_model.specs.World.{World}
 
--- one run behind another
+-- one run after another
 after-after : (a b : ℕ) (w : World) → after a (after b w) ≡ after (a + b) w
 unfolding after
 after-after zero b w = ap (λ (k : ℕ). after k w) (omega arith)
@@ -115,7 +115,7 @@ module _ (first : World) (sound : IsSound first) (every n m number : ℕ) (is : 
       let next = to_next first sound every n some within few (number - (m / every + 1)) w number after_is inside place in
       record { there = next.0; within = next.1; way = next.2 }
 
-  -- and behind the last one there is none
+  -- and after the last one there is none
   pub is_last : number ≤ n / every + 1 → n / every + 1 ≤ number → number - (m / every + 1) ≡ length (held_quanta every first.quanta n)
   is_last most least =
       let same : m / every ≡ first.quanta / every = ap (λ (k : ℕ). k / every) is in

@@ -53,7 +53,7 @@ small_there first quanta place q there all =
     subst IsSmallAt (get_or_from_slice_get quanta place q q there)
     (All-get_or IsSmallAt quanta place q (slice_get_within quanta place q there) all)
 
--- a file that is known, and behind which no state is too large, is not refused to a run that it is not beyond
+-- a file that is known, and after which no state is too large, is not refused to a run that it is not beyond
 pub none_refused : (setup : SetupFields) (n every : ℕ) (file : Option (List ℕ)) (text : List ℕ) (f : HoldFault)
     → IsHoldText setup n every file text → CanHold setup n every file → RefusesHold setup n every file f → ⊥
 none_refused setup n every file text (fault.Beyond held) t can h =

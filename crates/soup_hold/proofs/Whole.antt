@@ -117,7 +117,7 @@ module _ (setup : SetupFields) (held : Option (List ℕ)) (first : World) (quant
   holds_on file image zero read holds = (holds (Ok held)).0 read
   holds_on file image (suc j) read holds = holds
 
-  -- and behind that
+  -- and after that
   pub going_on_time : (old mid new : DeskState) → mid.told ≡ old.told → IsSomeAnd mid.reads (HoldsState setup held)
       → IfSome mid.reads (λ file. Elapses mid new (IsHolding (owner_of setup) (SaysSame (owner_of setup) file) first quanta mid.told))
       → Elapses mid new (HoldingOn old.told)

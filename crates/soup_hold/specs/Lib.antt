@@ -1,4 +1,5 @@
 pub mod Text
 pub mod Holding
 pub mod Stops
+pub mod Ending
 pub mod Steps

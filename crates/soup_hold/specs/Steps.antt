@@ -1,4 +1,4 @@
--- How a run comes from one checkpoint to the next.
+-- How a run gets from one checkpoint to the next.
 use Rattle.std.specs.Prelude.{All, IfSome, IsSomeAnd, List, Option, Some, length, slice_get, suc, take, zero, ℕ, ◌≡◌, ◌⊎◌, ◌^◌, ◌≤◌}
 use Rattle.desk_io.specs.Desk.{Appended, AppendedSome, DeskState, Elapses}
 use Rattle.soup_checkpoint.specs.declared.owner.Owner.{Owner}
@@ -16,8 +16,8 @@ use Rattle.tierra_model.specs.World.{World}
 
 -- ---- one checkpoint
 
--- While the state of a world is appended and its line told: the image says what the file said as long as nothing more
--- is told, or it holds the world.
+-- While the state of a world is appended and its line is told: the image says what the file said and nothing more is
+-- told, or it holds the world.
 abbrev pub IsHoldingNext : Owner → List ℕ → World → List ℕ → Option (List ℕ) → List ℕ → List ℕ → Type 0
 IsHoldingNext owner file w line before image text =
     (SaysSame owner file image × (before ≡ Some text))
@@ -41,7 +41,7 @@ abbrev pub IsWorldAfter : World → List ℕ → ℕ → World → Type 0
 IsWorldAfter first quanta zero w = w ≡ first
 IsWorldAfter first quanta (suc j) w = (q : ℕ) × (slice_get quanta j ≡ Some q) × (w ≡ world_at first q)
 
--- The worlds after the first j quanta were appended since the start, and their lines told.
+-- The worlds after the first j quanta were appended since the start, and their lines were told.
 pub record HasHeld (owner : Owner) (first : World) (quanta : List ℕ) (old now : DeskState) (j : ℕ) (s : ShelfState)
     (w : World) : Type 0 where
   pub owner_is : s.owner ≡ owner
@@ -59,7 +59,7 @@ IsLargeFirst first quanta f =
     (i q : ℕ) × (slice_get quanta i ≡ Some q) × All (λ p. IsSmall (world_at first p)) (take i quanta)
     × IsLargeAt (world_at first q) q f
 
--- Something stopped that.
+-- The run stopped before all of the worlds were appended and their lines told.
 pub record HasStopped (owner : Owner) (first : World) (quanta : List ℕ) (old now : DeskState) (cause : HoldStop) : Type 0 where
   pub large : IfRefused cause (IsLargeFirst first quanta)
   pub partly : AppendedSome old.told (held_lines quanta) now.told

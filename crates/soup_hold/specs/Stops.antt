@@ -12,19 +12,19 @@ stop_of (shelf.Refused f) = stop.Refused f
 stop_of shelf.DiskFault = stop.DiskFault
 stop_of shelf.OutOfMemory = stop.OutOfMemory
 
--- at a refusal of the file
+-- P holds of the fault if the file was refused
 abbrev pub IfRefused : HoldStop → (HoldFault → Type 0) → Type 0
 IfRefused (stop.Refused f) P = P f
 IfRefused stop.DiskFault P = Unit {0}
 IfRefused stop.TellFault P = Unit {0}
 IfRefused stop.OutOfMemory P = Unit {0}
 
--- at all but a tell that failed
+-- P holds unless a tell failed
 abbrev pub UnlessTelling : HoldStop → Type 0 → Type 0
 UnlessTelling stop.TellFault P = Unit {0}
 UnlessTelling s P = P
 
--- it stops at a fault where the desk has it, and only there
+-- the stop is a fault of the desk exactly if the desk has that fault
 abbrev pub CountsStop : HoldStop → DeskState → Type 0
 CountsStop (stop.Refused f) d = HasNoFault d
 CountsStop stop.DiskFault d = HasDiskFault d

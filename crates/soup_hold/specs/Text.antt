@@ -14,14 +14,14 @@ is_held every m quantum = nat_lt m quantum && quantum % every == 0
 unfoldable pub held_quanta : ℕ → ℕ → ℕ → List ℕ
 held_quanta every m n = filter (is_held every m) (range_with_len 0 (n + 1))
 
--- the world that a run comes to after a quantum, where it goes on from this one
+-- the world after a quantum of a run that goes on from the world first
 abbrev pub world_at : World → ℕ → World
 world_at first quantum = after (quantum - first.quanta) first
 
 abbrev pub held_line : ℕ → List ℕ
 held_line quantum = codes "held " ++ decimal quantum ++ codes "\n"
 
--- one line for each
+-- one line for each of the quanta
 abbrev pub held_lines : List ℕ → List ℕ
 held_lines quanta = flat_map held_line quanta
 
@@ -29,6 +29,6 @@ held_lines quanta = flat_map held_line quanta
 unfoldable pub last_report : World → ℕ → List ℕ
 last_report first n = report (world_at first n)
 
--- a line for each checkpoint, and the report
+-- a line for each checkpoint, and then the report
 abbrev pub hold_text : World → ℕ → ℕ → List ℕ
 hold_text first n every = held_lines (held_quanta every first.quanta n) ++ last_report first n

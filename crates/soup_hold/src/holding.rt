@@ -1,7 +1,7 @@
-//! A run from one file, to its last quantum.
+//! A run that goes on from a file, to its last quantum.
 
-ghost use Rattle.std.specs.Prelude.{◌≡◌, ◌⊎◌, ◌-◌, ◌<◌, ◌≤◌, ℕ, All, IfErr, IfOk, IfSome, List, OnErr, OnOk, Option, Some, length, take};
-ghost use Rattle.desk_io.specs.Desk.{Appended, Elapses, HasNoFault, TellsText, UsesDisk};
+ghost use Rattle.std.specs.Prelude.{◌≡◌, ◌-◌, ◌<◌, ◌≤◌, ℕ, All, IfErr, IfOk, IfSome, List, OnOk, Option, Some, length};
+ghost use Rattle.desk_io.specs.Desk.{Elapses, HasNoFault, TellsText, UsesDisk};
 ghost use Rattle.file_journal.specs.Files.{IsFresh};
 ghost use Rattle.file_journal.specs.Steps.{IfTold, IsUnwritten};
 ghost use Rattle.report_text.specs.Report.{report};
@@ -9,7 +9,8 @@ ghost use Rattle.serial_slicer.specs.Onward.{after};
 ghost use Rattle.soup_checkpoint.specs.declared.faults.HoldFault.{HoldFault};
 ghost use Rattle.soup_checkpoint.specs.Hold.{owner_of, title};
 ghost use Rattle.soup_checkpoint.specs.Shelf.{IsAttached, IsOfFile, Refuses, SaysAsBefore, SaysSame, ShelfState};
-ghost use Rattle.soup_hold.specs.Holding.{AppendedLess, CanHold, DiskHolds, HoldsState, IsCutShort, IsEarly, IsFirst, IsHolding, IsHoldText, IsSmall, RefusesHold};
+ghost use Rattle.soup_hold.specs.Ending.{IsDone, IsStopped};
+ghost use Rattle.soup_hold.specs.Holding.{AppendedLess, DiskHolds, HoldsState, IsEarly, IsFirst, IsHolding, IsSmall, RefusesHold};
 ghost use Rattle.soup_hold.specs.Steps.{Begins, HasHeld, HasStopped, IsLargeFirst};
 ghost use Rattle.soup_hold.specs.Stops.{CountsStops, IfRefused, UnlessTelling};
 ghost use Rattle.soup_hold.specs.Text.{held_quanta, hold_text, world_at};
@@ -27,7 +28,7 @@ use std::alloc::Global;
 use tierra_model::{Setup, Text};
 use world_core::World;
 
-// Appends the world after each quantum that `every` divides, from the world's own on to the last, and tells its line.
+// Appends the world after each quantum that `every` divides, from this world on up to the last, and tells its line.
 fn hold_each<D: Desk>(
     alloc: Global,
     desk: &mut D,
@@ -62,7 +63,7 @@ fn hold_each<D: Desk>(
     Ok(world)
 }
 
-// The report of the world that was run on to the last quantum.
+// Runs the world on to the last quantum, and gives its report.
 fn last_report(alloc: Global, world: World, quanta: u64) -> Result<Text, HoldStop>
     requires later { world.world.quanta ≤ quanta }
     requires few { quanta ≤ MOST_QUANTA }
@@ -74,7 +75,7 @@ fn last_report(alloc: Global, world: World, quanta: u64) -> Result<Text, HoldSto
     Ok(report(alloc, &world)?)
 }
 
-// Does that, runs the world on to the last quantum, and tells the report.
+// Appends and tells the checkpoints, runs the world on to the last quantum, and tells the report.
 fn hold_from<D: Desk>(
     alloc: Global,
     desk: &mut D,
@@ -129,7 +130,8 @@ fn begin<D: Desk>(alloc: Global, desk: &mut D, setup: &Setup) -> Result<(Shelf, 
 }
 
 /// Runs the setup to the last quantum, from the world that its file holds or else from the start. After each quantum
-/// that `every` divides it appends the world's state to the file, and then tells that. Last it tells the report.
+/// that `every` divides it appends the world's state to the file, and then tells its line. At the end it tells the
+/// report.
 pub fn hold<D: Desk>(
     alloc: Global,
     desk: &mut D,
@@ -141,33 +143,18 @@ pub fn hold<D: Desk>(
     requires every { 1 ≤ every }
     requires sound { HasNoFault (D.state desk.old) }
 
-    // What is told is the text of a run that goes on from what the file holds, or begins that text.
-    ensures told { OnOk result ((text : List ℕ) × IsHoldText setup.now quanta every (D.state desk.old).reads text
-        × Appended (D.state desk.old).told text (D.state desk.new).told) }
-    ensures partly { OnErr result (((D.state desk.new).told ≡ (D.state desk.old).told)
-        ⊎ ((text : List ℕ) × (k : ℕ) × IsHoldText setup.now quanta every (D.state desk.old).reads text
-        × Appended (D.state desk.old).told (take k text) (D.state desk.new).told)) }
+    // A run that is done has told its whole text, and none of its states was too large. One that stopped has told nothing
+    // or the first bytes of it, and not all of them unless a tell failed. A refusal has its reason.
+    ensures done { OnOk result (IsDone setup.now quanta every (D.state desk.old) (D.state desk.new)) }
+    ensures stopped { IfErr result (IsStopped setup.now quanta every (D.state desk.old) (D.state desk.new)) }
 
-    // All of it was told only where the run is done, or a tell failed.
-    ensures unfinished { IfErr result (λ s. UnlessTelling s (IsCutShort setup.now quanta every (D.state desk.old).reads
-        (D.state desk.old).told (D.state desk.new).told)) }
-
-    // No state was too large, where all were appended.
-    ensures small { OnOk result (IfSome (D.state desk.old).reads (λ file. CanHold setup.now quanta every (Some file))) }
-
-    // A refusal has its reason. Where it comes before a state is appended, nothing was told, and no byte written at any
-    // moment.
-    ensures refused { IfErr result (λ s. IfRefused s (RefusesHold setup.now quanta every (D.state desk.old).reads)) }
-    ensures untold { IfErr result (λ s. IfRefused s (λ f. IsEarly f
-        → (D.state desk.new).told ≡ (D.state desk.old).told)) }
-    ensures unwritten { IfErr result (λ s. IfRefused s (λ f. IsEarly f → IfSome (D.state desk.old).reads (λ file.
-        IsUnwritten (D.state desk.old) (D.state desk.new)))) }
+    // A file that is refused before any state is appended is not written at any moment.
     ensures quiet { (f : HoldFault) → IsEarly f → IfSome (D.state desk.old).reads (λ file.
         RefusesHold setup.now quanta every (Some file) f
         → Elapses (D.state desk.old) (D.state desk.new) (λ image text. (D.state desk.old).may_leave image)) }
 
-    // Where what a read gives and whatever a crash may leave holds the same, each moment's image holds it, or a world
-    // that was appended since: no earlier than any whose line was told, and at most one later.
+    // If, at the start, what a read gives and every image that a crash may leave hold the same, then at each moment the
+    // image holds that, or a world appended since: no earlier than any whose line was told, and at most one later.
     ensures moments { (held : Option (List ℕ)) (first : WorldFields)
         → DiskHolds setup.now held (D.state desk.old).reads (D.state desk.old).may_leave → IsFirst setup.now held first
         → Elapses (D.state desk.old) (D.state desk.new)
@@ -187,7 +174,7 @@ pub fn hold<D: Desk>(
     hold_from(alloc, desk, shelf, world, quanta, every)
 }
 
-// Does nothing. Its clause is what the type of a setup keeps.
+// Does nothing: its contract is what the type of a setup keeps.
 fn is_setup(setup: &Setup)
     ensures { IsSetup setup.now }
 {

@@ -1,7 +1,7 @@
 //! From one checkpoint to the next.
 
-ghost use Rattle.std.specs.Prelude.{◌≡◌, ◌++◌, ◌-◌, ◌≤◌, ◌⊎◌, IfErr, IfOk, IfSome, OnOk, Some};
-ghost use Rattle.desk_io.specs.Desk.{Elapses, HasNoFault, TellsText, UsesDisk};
+ghost use Rattle.std.specs.Prelude.{◌≡◌, ◌-◌, ◌≤◌, ◌⊎◌, IfErr, IfOk, IfSome};
+ghost use Rattle.desk_io.specs.Desk.{Elapses, TellsText, UsesDisk};
 ghost use Rattle.file_journal.specs.Steps.{IfTold};
 ghost use Rattle.serial_slicer.specs.Onward.{after};
 ghost use Rattle.soup_checkpoint.specs.Shelf.{IsAttached, SaysSame};
@@ -19,7 +19,7 @@ use std::alloc::Global;
 use tierra_model::{OutOfMemory, Text};
 use world_core::World;
 
-/// A frame has fewer bytes of state than this.
+/// The state in a frame has fewer bytes than this.
 const MOST_BYTES: usize = 1 << 31;
 
 // The line of a checkpoint.
@@ -81,7 +81,7 @@ fn keep_and_tell<D: Desk>(
     Ok(shelf)
 }
 
-/// Runs the world on to the quantum, appends its state, and tells that.
+/// Runs the world on to the quantum, appends its state, and tells its line.
 pub(crate) fn hold_next<D: Desk>(
     alloc: Global,
     desk: &mut D,

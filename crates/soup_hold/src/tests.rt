@@ -1,6 +1,6 @@
 //! Runs over a file in memory.
 
-ghost use Rattle.std.specs.Prelude.{◌≡◌, ◌<◌, ◌≤◌, IfOk};
+ghost use Rattle.std.specs.Prelude.{◌<◌, ◌≤◌, IfOk};
 ghost use Rattle.desk_io.specs.Desk.{HasNoFault};
 ghost use Rattle.desk_io.specs.MemDesk.{state_of};
 ghost use Rattle.tierra_model.specs.Ranges.{IsCode};
@@ -56,7 +56,7 @@ fn run_desk(
     Ok(hold(alloc, desk, &setup, quanta, every))
 }
 
-// Runs the image, of whose desk all calls fail from one on, and takes a crash's image by its number.
+// Runs on the image over a desk whose calls all fail from a given one on, and takes the image of a crash by number.
 fn run(
     alloc: Global,
     cells: &[u8],

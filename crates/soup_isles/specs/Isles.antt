@@ -16,8 +16,8 @@ use Rattle.world_state.specs.StateBytes.{eight}
 
 -- ---- seeds
 
--- the seed of an isle in an epoch: the digest of the file's seed and of both numbers, each in eight bytes, the greatest
--- first
+-- the seed of an isle in an epoch: the digest of the file's seed and of both numbers, each in eight bytes, the most
+-- significant first
 unfoldable pub isle_seed : List ℕ → ℕ → ℕ → List ℕ
 isle_seed seed epoch isle = sha256 (seed ++ eight epoch ++ eight isle)
 
@@ -26,7 +26,7 @@ with_seed seed s = record s { seed = seed }
 
 -- ---- who begins an epoch
 
--- the address of the creature's own block, and what that block has
+-- the address and the content of the creature's own block
 abbrev pub settler : World → Creature → Inoculum
 settler w c = record { at = c.own.at; code = slice_range w.soup c.own.at (c.own.at + c.own.size) }
 
@@ -38,12 +38,13 @@ settlers w = map (λ id. settler w (one_of w.living id)) w.slicer
 abbrev pub is_settled : List Inoculum → ℕ → Bool
 is_settled creatures p = list_any (λ c. is_in (block_of c) p) creatures
 
--- what the own block of the creature at the front has
+-- the content of the own block of the creature at the front
 unfoldable pub emigrant : World → List ℕ
 emigrant w = (settler w (front w)).code
 
--- The migrant comes last, to the least address where its code lies in the soup and shares no cell with the others.
--- Where there is none, it does not come. (That `first_fit` is the least one is the law `first_fit_is_least` of the model.)
+-- The migrant comes last, at the least address where its code lies in the soup and shares no cell with the others.
+-- Where there is none, it does not come. (That `first_fit` is the least one is the law `first_fit_is_least` of the
+-- model.)
 unfoldable pub with_migrant : ℕ → List Inoculum → List ℕ → List Inoculum
 with_migrant size creatures code =
     elim (first_fit size (is_settled creatures) (length code)) [
@@ -53,14 +54,14 @@ with_migrant size creatures code =
 
 -- ---- the isles together
 
--- what stands at a place of the list
+-- the world and the setup at a place of the list
 abbrev pub world_at : List World → ℕ → World
 world_at worlds place = slice_index_or worlds place (empty_world default_settings)
 
 abbrev pub setup_at : List SetupFields → ℕ → SetupFields
 setup_at setups place = slice_index_or setups place (setup_for [])
 
--- the place of the isle before; before the first is the last of so many
+-- the place of the isle before, in a ring of `count` isles
 abbrev pub place_before : ℕ → ℕ → ℕ
 place_before count place = if place == 0 then count - 1 else place - 1
 
@@ -79,6 +80,6 @@ next_setup setups worlds seed epoch place =
       creatures = next_creatures worlds place;
     }
 
--- the setups of all isles in the epoch, after these setups and worlds of the epoch before
+-- the setups of all isles in the epoch, from the setups and worlds of the epoch before
 unfoldable pub next_setups : List SetupFields → List World → List ℕ → ℕ → List SetupFields
 next_setups setups worlds seed epoch = map (next_setup setups worlds seed epoch) (range_with_len 0 (length setups))

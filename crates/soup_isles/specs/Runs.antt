@@ -14,7 +14,7 @@ first_setup setup place =
       creatures = setup.creatures;
     }
 
--- so many isles in epoch 1
+-- the setups of the isles in epoch 1
 unfoldable pub first_setups : SetupFields → ℕ → List SetupFields
 first_setups setup isles = map (first_setup setup) (range_with_len 0 isles)
 
@@ -22,12 +22,12 @@ first_setups setup isles = map (first_setup setup) (range_with_len 0 isles)
 abbrev pub worlds_of : List SetupFields → ℕ → List World
 worlds_of setups n = map (λ s. serial s n) setups
 
--- the setups of isles after so many migrations, each after an epoch of n quanta; k migrations come before epoch k + 1
+-- the setups of isles after k migrations, each after an epoch of n quanta; k migrations come before epoch k + 1
 unfoldable pub setups_after : SetupFields → ℕ → ℕ → ℕ → List SetupFields
 setups_after setup isles n zero = first_setups setup isles
 setups_after setup isles n (suc k) =
     let setups = setups_after setup isles n k in next_setups setups (worlds_of setups n) setup.settings.seed (k + 2)
 
--- the worlds of isles at the end of the last of so many epochs
+-- the worlds of isles at the end of the last epoch
 abbrev pub isle_worlds : SetupFields → ℕ → ℕ → ℕ → List World
 isle_worlds setup isles epochs n = worlds_of (setups_after setup isles n (epochs - 1)) n

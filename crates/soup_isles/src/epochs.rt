@@ -1,11 +1,10 @@
 //! Runs of isles.
 
-ghost use Rattle.std.specs.Prelude.{◌≡◌, ◌+◌, ◌<◌, ◌≤◌, All, IfOk, length, map};
+ghost use Rattle.std.specs.Prelude.{◌≡◌, ◌+◌, ◌<◌, ◌≤◌, IfOk, length, map};
 ghost use Rattle.std.specs.Thread.{IsSync};
 ghost use Rattle.tierra_model.specs.declared.limits.TheConstants.{MOST_EPOCHS, MOST_ISLES, MOST_QUANTA, MOST_WORKERS};
-ghost use Rattle.tierra_model.specs.Serial.{serial};
 ghost use Rattle.tierra_model.specs.Setups.{IsSetup};
-ghost use Rattle.soup_isles.specs.Runs.{first_setup, first_setups, isle_worlds, setups_after, worlds_of};
+ghost use Rattle.soup_isles.specs.Runs.{first_setup, first_setups, isle_worlds, worlds_of};
 
 use crate::lists::{SetupList, WorldList};
 use crate::migration::next_setups;
@@ -16,7 +15,7 @@ use std::thread::{Threads, join};
 use tierra_model::{Code, Inoculum, OutOfMemory, SeedList, Setup};
 use world_core::World;
 
-/// The worlds of isles at the end of the last of so many epochs. In each epoch the isles are cut into as many parts as
+/// The worlds of isles at the end of the last epoch. In each epoch the isles are cut into as many parts as
 /// there are workers, each part on a thread.
 pub fn run_isles<R: Threads + Sync>(
     rt: &R,
@@ -50,7 +49,7 @@ pub fn run_isles<R: Threads + Sync>(
 
 // ---- epoch 1
 
-/// The file's setup on each isle.
+/// The setups of the isles in epoch 1: the file's setup, with the seed of each isle.
 #[tactic(auto, unfolding(crate::specs::Runs::first_setups))]
 pub(crate) fn first_setups(
     alloc: Global,
@@ -121,7 +120,7 @@ pub(crate) fn run_epoch<R: Threads + Sync>(
     Ok(WorldList { items })
 }
 
-// In as many parts as there are workers.
+// Runs the isles in as many parts as there are workers.
 fn run_parts<R: Threads + Sync>(
     rt: &R,
     alloc: Global,
@@ -166,7 +165,7 @@ fn share_of(some: u32, workers: u32, isles: usize) -> usize
     each * some as usize + more.min(some as usize)
 }
 
-// One after another.
+// Runs the isles one after another.
 fn run_each(alloc: Global, setups: &[Setup], quanta: u64) -> Result<Vec<World>, OutOfMemory>
     requires { quanta ≤ MOST_QUANTA }
     ensures { IfOk result (λ v. map (λ w. w.world) v.items ≡ worlds_of setups.now quanta) }

@@ -9,7 +9,7 @@ use std::marker::Model;
 use tierra_model::Setup;
 use world_core::World;
 
-/// Setups, in the order of their isles. The type keeps that each is a setup.
+/// Setups, in the order of their isles. The type ensures that each is a setup.
 #[derive(Debug, Drop)]
 pub struct SetupList {
     pub items: Vec<Setup>,
@@ -26,7 +26,7 @@ impl Model for SetupList {
     ghost invariant = { λ l. All IsSetup l.items.items };
 }
 
-/// Worlds, in the order of their isles. The type keeps that each is sound.
+/// Worlds, in the order of their isles. The type ensures that each is sound.
 #[derive(Drop)]
 pub struct WorldList {
     pub items: Vec<World>,

@@ -3,7 +3,6 @@
 ghost use Rattle.std.specs.Prelude.{◌≡◌, ◌<◌, ◌≤◌, IfOk, length, map};
 ghost use Rattle.tierra_model.specs.declared.limits.TheConstants.{MOST_ISLES};
 ghost use Rattle.tierra_model.specs.Setups.{IsSetup};
-ghost use Rattle.tierra_model.specs.Sound.{IsSound};
 ghost use Rattle.soup_isles.specs.Isles.{next_creatures, next_setup, next_setups, place_before, world_at};
 
 use crate::lists::{SetupList, WorldList};
@@ -12,7 +11,7 @@ use crate::settling::{add_migrant, emigrant, settlers};
 use std::alloc::Global;
 use tierra_model::{Inoculum, OutOfMemory, SeedList, Setup};
 
-/// The setups of the isles in the epoch, after these setups and worlds of the epoch before.
+/// The setups of the isles in the epoch, from the setups and worlds of the epoch before.
 #[tactic(auto, unfolding(crate::specs::Isles::next_setups))]
 pub fn next_setups(
     alloc: Global,
@@ -82,7 +81,7 @@ fn next_creatures(
     Ok(creatures)
 }
 
-// The place of the isle before; before the first is the last of so many.
+// The place of the isle before, in a ring of `count` isles.
 fn place_before(count: usize, place: usize) -> usize
     requires { place < count }
     ensures before { result ≡ place_before count place }

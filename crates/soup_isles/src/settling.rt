@@ -1,6 +1,6 @@
 //! Who begins an epoch on an isle.
 
-ghost use Rattle.std.specs.Prelude.{◌≡◌, ◌+◌, ◌<◌, ◌^◌, ◌≤◌, IfOk, OnOk, length, slice_index};
+ghost use Rattle.std.specs.Prelude.{◌≡◌, ◌+◌, ◌<◌, ◌≤◌, IfOk, OnOk, length, slice_index};
 ghost use Rattle.tierra_model.specs.declared.limits.TheConstants.{MOST_SIZE};
 ghost use Rattle.tierra_model.specs.Living.{one_of};
 ghost use Rattle.tierra_model.specs.Ranges.{IsCode};
@@ -27,7 +27,7 @@ pub(crate) fn settlers(alloc: Global, world: &World) -> Result<Vec<Inoculum>, Ou
     Ok(items)
 }
 
-/// What the own block of the creature at the front has.
+/// The content of the own block of the creature at the front.
 #[tactic(auto, unfolding(crate::specs::Isles::emigrant))]
 pub(crate) fn emigrant(alloc: Global, world: &World) -> Result<Code, OutOfMemory>
     requires sound { IsSound world.now.world }
@@ -38,7 +38,7 @@ pub(crate) fn emigrant(alloc: Global, world: &World) -> Result<Code, OutOfMemory
     Ok(settler.code)
 }
 
-// Who runs after so many more quanta, if nobody is born or dies.
+// Who runs after this many more quanta, if nobody is born or dies.
 fn creature_at(world: &World, k: u32) -> &Creature
     requires sound { IsSound world.now.world }
     requires within { k < length world.now.world.slicer }
@@ -51,7 +51,7 @@ fn creature_at(world: &World, k: u32) -> &Creature
     }
 }
 
-// The address of the creature's own block, and what that block has.
+// The address and the content of the creature's own block.
 fn settler(alloc: Global, world: &World, creature: &Creature) -> Result<Inoculum, OutOfMemory>
     requires sound { IsSound world.now.world }
     requires lies { creature.now.own.at + creature.now.own.size ≤ length world.now.world.soup }
@@ -68,8 +68,8 @@ fn settler(alloc: Global, world: &World, creature: &Creature) -> Result<Inoculum
     })
 }
 
-/// The migrant comes last, to the least address where it lies in the soup and shares no cell with the others, if there
-/// is one.
+/// The migrant comes last, at the least address where it lies in the soup and shares no cell with the others. Where
+/// there is none, it does not come.
 #[tactic(auto, unfolding(crate::specs::Isles::with_migrant))]
 pub(crate) fn add_migrant(
     alloc: Global,
@@ -89,7 +89,7 @@ pub(crate) fn add_migrant(
     Ok(())
 }
 
-// The least address of so many cells that are in nobody's block.
+// The least address from which this many cells are in nobody's block, if there is one.
 fn room_beside(
     alloc: Global,
     creatures: &[Inoculum],

@@ -10,7 +10,7 @@ use std::thread::Threads;
 use tierra_model::Now;
 use world_core::World;
 
-/// Two creatures, of which the first writes into its own first cell.
+/// Two creatures; the first writes into its own first cell.
 const TWO_FILE: &str = r#"
 soup_size = 100
 [[creature]]
@@ -49,15 +49,15 @@ nop_0 nop_1 if_cz nop_1 nop_0 nop_1 nop_1 pop_cx pop_bx pop_ax ret nop_1 nop_1 n
 const TWO_REPORT: &str = "quanta 1\nbirths 0\ndeaths 0\nliving 3\nfilled 12\n\
     front 2 ip 0 ax 0 bx 0 cx 0 dx 0 flag 0 errors 0\ngenotypes 2\nkept 1\n0005aaa 2 2\n0002aaa 1 1\n";
 
-/// The same of the only isle, to which no migrant comes.
+/// The report of an isle of two creatures that is the only one, so that no migrant comes.
 const ALONE_REPORT: &str = "quanta 1\nbirths 0\ndeaths 0\nliving 2\nfilled 7\n\
     front 2 ip 0 ax 0 bx 0 cx 0 dx 0 flag 0 errors 0\ngenotypes 2\nkept 0\n0005aaa 1 1\n0002aaa 1 1\n";
 
-/// The same of the isles without room for a migrant.
+/// The report of each isle that has no room for a migrant.
 const LARGE_REPORT: &str = "quanta 1\nbirths 0\ndeaths 0\nliving 1\nfilled 51\n\
     front 1 ip 74 ax 25 bx 0 cx 0 dx 0 flag 0 errors 0\ngenotypes 1\nkept 0\n0051aaa 1 1\n";
 
-/// The worlds of isles of a soup file, after so many epochs of one quantum.
+/// The worlds of isles of a soup file, after this many epochs of one quantum.
 fn worlds_of<R: Threads + Sync>(
     rt: &R,
     alloc: Global,

@@ -8,7 +8,7 @@ use report_text::report;
 use std::alloc::Global;
 use tierra_model::{OutOfMemory, Text};
 
-/// For each isle in order its number, and the report of its world.
+/// The number of each isle and the report of its world, in order.
 #[tactic(auto, unfolding(crate::specs::Text::isles_text))]
 pub fn isles_text(alloc: Global, worlds: &WorldList) -> Result<Text, OutOfMemory>
     ensures { IfOk result (λ text. text ≡ isles_text worlds.now) }

@@ -1,4 +1,4 @@
-//! The table of the instructions: their codes and their names, each way.
+//! The table of the instructions: from each to its code and its name, and back.
 #![tactic(auto)]
 
 ghost use Rattle.std.specs.Prelude.{◌≡◌, ◌↔◌, slice_get, IsNone, IfSome};

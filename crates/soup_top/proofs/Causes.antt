@@ -22,11 +22,12 @@ use Rattle.soup_hold.proofs.Refusing.{none_refused}
 use Rattle.soup_hold.proofs.SomeText.{some_hold_text}
 use Rattle.soup_watch.proofs.SomeText.{some_watch_text}
 use Rattle.soup_top.specs.Answers.{AskingCause, AsksForRunOf, Cause, DiskIsOfHold, DiskIsOfRun, ForOrder, IsAccepted, OnBankRefused, RefusesHoldOf, RefusesOrder}
+use Rattle.soup_top.specs.Ending.{IsRefusedFor, IsStoppedFor}
 use Rattle.soup_top.specs.Genebank.{DiskIsOfHistory, RefusesRun}
 use Rattle.soup_top.specs.Keeping.{IsToldAtRefusal}
 use Rattle.soup_top.specs.Sources.{IsSetupOf, IsSoupSource, IsTextBy, IsTextOf, Refused, read_by, run_groups, run_text}
 use Rattle.soup_top.specs.Statuses.{status_of}
-use Rattle.soup_top.specs.Stops.{CountsStop, IfHoldRefused, IfRefused}
+use Rattle.soup_top.specs.Stops.{CountsStop, IfRefused}
 use Rattle.soup_top.specs.Tasks.{IsTaskOf, IsToldWhenRefused, OfText, RefusesHolding, RefusesTask}
 use Rattle.soup_top.specs.Words.{AsksFor, IsRun, ReadsSource, UsesDisk, kind_of}
 use Rattle.soup_top.proofs.Accepted.{not-refused, one-setup-of}
@@ -132,16 +133,17 @@ disk-task words left (task.Hold setup asked) disk is none some =
     (is.0, is.1, (subst UsesDisk (sym is.2.0) tt, task-accepted words left (task.Hold setup asked) is))
 
 -- an answer at which what was asked stops
-pub stop-has-cause : (words : List (List ℕ)) (left file : Option (List ℕ)) (R : Type 0) (t : Task) (d : DeskState) (s : RunStop)
-    → IsTaskOf words left t → OfText t (d.disk_faults ≡ 0) → IfRefused s (RefusesTask t file)
-    → IfHoldRefused s (RefusesHolding t file) → CountsStop s d
-    → Cause words left file R (0 < d.disk_faults) (0 < d.tell_faults) (status_of s)
-stop-has-cause words left file R t d (stop.Refused f) is text h held counts = refuses-task words left file t f is h
-stop-has-cause words left file R t d stop.DiskFault is text h held counts = (counts.disk, disk-task words left t d.disk_faults is text counts.disk)
-stop-has-cause words left file R t d stop.TellFault is text h held counts =
+pub stop-has-cause : (words : List (List ℕ)) (left : Option (List ℕ)) (R : Type 0) (t : Task) (old d : DeskState) (s : RunStop)
+    → IsTaskOf words left t → OfText t (d.disk_faults ≡ 0) → IsStoppedFor t old d s → CountsStop s d
+    → Cause words left old.reads R (0 < d.disk_faults) (0 < d.tell_faults) (status_of s)
+stop-has-cause words left R t old d (stop.Refused f) is text stopped counts = refuses-task words left old.reads t f is stopped.refused.reason
+stop-has-cause words left R t old d stop.DiskFault is text stopped counts =
+    (counts.disk, disk-task words left t d.disk_faults is text counts.disk)
+stop-has-cause words left R t old d stop.TellFault is text stopped counts =
     (counts.tell, (is.0, is.1, task-accepted words left t is))
-stop-has-cause words left file R t d stop.OutOfMemory is text h held counts = tt
-stop-has-cause words left file R t d (stop.HoldRefused f) is text h held counts = refuses-holding words left file t f is held
+stop-has-cause words left R t old d stop.OutOfMemory is text stopped counts = tt
+stop-has-cause words left R t old d (stop.HoldRefused f) is text stopped counts =
+    refuses-holding words left old.reads t f is stopped.hold_refused.reason
 
 -- accepted bytes of a source are not refused
 source-refused : (what : Kind) (order : Order) (bytes text : List ℕ) (left file : Option (List ℕ)) (f : SourceFault) → ReadsSource what
@@ -223,13 +225,13 @@ complete-by words left file may_leave order bytes text reads disk tells (status.
     absurd (hold-refused (kind_of order) order bytes text left file f here.0 e t (c here.0) here.1.0 here.1.1 here.1.2)
 
 -- what was told when a run's bank was refused
-pub told-when-refused : (words : List (List ℕ)) (left file before now : Option (List ℕ)) (t : Task) (s : RunStop) → IsTaskOf words left t
-    → IfRefused s (λ f. IfSome file (λ image. IsToldWhenRefused t before now f))
+pub told-when-refused : (words : List (List ℕ)) (left : Option (List ℕ)) (old new : DeskState) (t : Task) (s : RunStop) → IsTaskOf words left t
+    → IfRefused s (IsRefusedFor t old new)
     → OnBankRefused (status_of s) (λ f. (setup : SetupFields) (n : ℕ) → AsksForRunOf words left setup n
-    → IfSome file (λ image. IsToldAtRefusal (run_groups setup n) before now f))
-told-when-refused words left file before now t (stop.Refused f) is h = λ setup n asked.
-    subst (λ (x : Task). IfSome file (λ image. IsToldWhenRefused x before now f)) (run-asked words left t setup n is asked).1 h
-told-when-refused words left file before now t stop.DiskFault is h = tt
-told-when-refused words left file before now t stop.TellFault is h = tt
-told-when-refused words left file before now t stop.OutOfMemory is h = tt
-told-when-refused words left file before now t (stop.HoldRefused f) is h = tt
+    → IfSome old.reads (λ image. IsToldAtRefusal (run_groups setup n) old.told new.told f))
+told-when-refused words left old new t (stop.Refused f) is h = λ setup n asked.
+    subst (λ (x : Task). IfSome old.reads (λ image. IsToldWhenRefused x old.told new.told f)) (run-asked words left t setup n is asked).1 h.told
+told-when-refused words left old new t stop.DiskFault is h = tt
+told-when-refused words left old new t stop.TellFault is h = tt
+told-when-refused words left old new t stop.OutOfMemory is h = tt
+told-when-refused words left old new t (stop.HoldRefused f) is h = tt

@@ -14,7 +14,7 @@ abbrev pub HoldsSerial : SetupFields → Option ℕ → List ℕ → Type 0
 HoldsSerial setup None image = HoldsState setup None image
 HoldsSerial setup (Some m) image = HoldsWorld (owner_of setup) (serial setup m) image
 
--- What a read gives, and whatever a crash may leave, holds that.
+-- What a read gives, and whatever a crash may leave, holds the serial run's world after this quantum, or none.
 pub record DiskHoldsSerial (setup : SetupFields) (start : Option ℕ) (reads : Option (List ℕ)) (may_leave : List ℕ → Type 0) : Type 0 where
   pub file : List ℕ
   pub told : reads ≡ Some file
@@ -26,7 +26,7 @@ pub record DiskHoldsSerial (setup : SetupFields) (start : Option ℕ) (reads : O
 abbrev pub quantum_of : Option ℕ → ℕ
 quantum_of start = unwrap_or start 0
 
--- what a run tells that goes on from there
+-- what a run that goes on from there tells
 abbrev pub resumed_text : SetupFields → ℕ → ℕ → Option ℕ → List ℕ
 resumed_text setup n every start = held_lines (held_quanta every (quantum_of start) n) ++ run_report setup n
 
@@ -41,9 +41,9 @@ pub record IsHeldAt (quanta : List ℕ) (piece : List ℕ) (k : ℕ) : Type 0 wh
   pub there : slice_get quanta place ≡ Some k
   pub kept_up : BeginsWithText (held_lines (take place quanta)) piece
 
--- At a moment of a run to quantum n, where this was told when it began: the image holds what the file held at the start,
--- or the serial run's world after one of the quanta that are held since. None whose line was told is later, and at most
--- that one's line is not told yet.
+-- At a moment of a run to quantum n, where `before` was told when it began: the image holds what the file held at the
+-- start, or the serial run's world after a checkpoint since. No checkpoint whose line was told is later. Of the lines
+-- up to the held checkpoint, at most its own was not told yet.
 pub record IsTrueHold (setup : SetupFields) (n every : ℕ) (start : Option ℕ) (before : Option (List ℕ)) (image text : List ℕ) : Type 0 where
   pub held : Option ℕ
   pub holds : HoldsSerial setup held image
@@ -52,17 +52,17 @@ pub record IsTrueHold (setup : SetupFields) (n every : ℕ) (start : Option ℕ)
   pub text_is : IsToldAfter before piece text
   pub told : HasToldHeld held (held_quanta every (quantum_of start) n) piece
 
--- A run that goes on from a world of the serial run has told the lines of the multiples after its quantum, and the report.
+-- A run that goes on from a world of the serial run has told a line for each later checkpoint, and the report.
 abbrev pub Resumes : SetupFields → ℕ → ℕ → DeskState → DeskState → Type 0
 Resumes setup n every old new = (start : Option ℕ) → DiskHoldsSerial setup start old.reads old.may_leave
     → Appended old.told (resumed_text setup n every start) new.told
 
--- and each of its moments was a true one
+-- each moment of such a run satisfies IsTrueHold
 abbrev pub HasTrueMoments : SetupFields → ℕ → ℕ → DeskState → DeskState → Type 0
 HasTrueMoments setup n every old new = (start : Option ℕ) → DiskHoldsSerial setup start old.reads old.may_leave
     → Elapses old new (IsTrueHold setup n every start old.told)
 
--- Nothing was told, and where the desk tells its file, that was not written at any moment.
+-- Nothing was told, and where the contents of the desk's file are known, it was not written at any moment.
 pub record IsLeftAlone (old new : DeskState) : Type 0 where
   pub told : new.told ≡ old.told
   pub reads : IfSome old.reads (λ file. new.reads ≡ old.reads)

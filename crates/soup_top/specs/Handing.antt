@@ -1,4 +1,4 @@
--- How far a run's groups were taken to its bank, and what it was that stopped that.
+-- How far a run's groups were taken to its bank, and why that stopped.
 use Rattle.std.specs.Prelude.{ℕ, ◌≡◌, ◌≤◌, List, length, take, MatchOption, Option, Some, None, IfSome}
 use Rattle.tierra_model.specs.Genebank.{GroupsFit}
 use Rattle.tierra_model.specs.Groups.{GroupFields}
@@ -20,8 +20,8 @@ pub record TakenSoFar (had run : List GroupFields) (k : ℕ) (groups : List Grou
   pub fits : GroupsFit (take k groups) (take k run)
   pub told : Appended before (saved_lines (take k run)) now
 
--- The first k groups of a run were taken to its bank since the start, and the bank is attached still. As long as it had that
--- many at the start, the disk was left alone.
+-- The first k groups of a run were taken to its bank since the start, and the bank is still attached. Where it had at
+-- least k groups at the start, the disk was left alone.
 pub record HasTaken (first : BankState) (run : List GroupFields) (old now : DeskState) (k : ℕ) (bank : BankState) : Type 0 where
   pub digest : bank.digest ≡ first.digest
   pub inside : k ≤ length run
@@ -31,7 +31,7 @@ pub record HasTaken (first : BankState) (run : List GroupFields) (old now : Desk
   pub kept : k ≤ length first.groups → KeepsDisk old now
   pub time : IfSome old.reads (λ file. Elapses old now (IsKeeping first.digest first.groups run (saved_lines run) old.told))
 
--- Something stopped that. Where a group differs, whatever the cause, the disk was left alone.
+-- Taking groups stopped at this cause. Where a group of the bank differs, the disk was left alone, whatever the cause.
 pub record HasStopped (first : BankState) (run : List GroupFields) (old now : DeskState) (cause : RunStop) : Type 0 where
   pub differs : IfDiffers cause (λ k. IsFirstToDiffer first.groups run k × Appended old.told (saved_lines (take k run)) now.told)
   pub kept : (k : ℕ) → IsFirstToDiffer first.groups run k → KeepsDisk old now
@@ -48,7 +48,7 @@ abbrev pub StopsAt : {D : Type 0} → (D → DeskState) → Start D → D → Ru
 StopsAt state start desk =
     HasStopped start.bank.value (run_groups start.setup.value start.quanta) (state start.desk.value) (state desk)
 
--- It goes on, or else has stopped at the cause that is kept.
+-- The run goes on, or it has stopped at the cause that the keeper holds.
 abbrev pub IsOnTheWay : {D : Type 0} → (D → DeskState) → Start D → D → Keeper → Type 0
 IsOnTheWay state start desk keeper = MatchOption keeper.stopped (GoesOn state start desk keeper) (StopsAt state start desk)
 

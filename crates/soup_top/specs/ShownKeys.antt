@@ -1,5 +1,6 @@
--- A key as a line on a terminal can show it: each control character as \u and its code in four hexadecimal digits. Those of one
--- byte are U+0000 to U+001F and U+007F. Those of two bytes are U+0080 to U+009F: the byte 194, then the byte of that number.
+-- A key as a line on a terminal can show it: each control character as \u and its code in four hexadecimal digits.
+-- Control characters of one byte are U+0000 to U+001F and U+007F. Those of two bytes are U+0080 to U+009F: the byte
+-- 194, then the byte of that number.
 use Rattle.std.specs.Prelude.{Bool, List, [], codes, if◌then◌else◌, length, nat_le, nat_lt, slice_index_or, ℕ, ◌%◌, ◌&&◌, ◌++◌, ◌+◌, ◌-◌, ◌/◌, ◌==◌, ◌||◌, ◌∷◌}
 use Rattle.std.specs.List.{flat_map, range_with_len}
 
@@ -9,7 +10,7 @@ is_low_control byte = nat_lt byte 32 || (byte == 127)
 abbrev pub is_high_control : ℕ → Bool
 is_high_control byte = nat_le 128 byte && nat_le byte 159
 
--- the byte at the place is the first of the two bytes of a control character, and the second
+-- the byte at the place is the first of a control character's two bytes; ends_control: it is the second
 abbrev pub begins_control : List ℕ → ℕ → Bool
 begins_control key place = (slice_index_or key place 0 == 194) && is_high_control (slice_index_or key (place + 1) 0)
 

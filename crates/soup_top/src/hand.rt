@@ -22,7 +22,7 @@ use std::sync::Wait;
 use std::thread::Threads;
 use tierra_model::{Group, Groups, Setup, Text};
 
-/// Where a run began, which contracts alone see: its setup, its desk and its bank then.
+/// What a run began with, which only contracts see: its setup, its quanta, and its desk and bank as they were then.
 #[derive(Drop)]
 pub(crate) struct Start<D> {
     pub setup: Snapshot<Setup>,
@@ -34,14 +34,14 @@ pub(crate) struct Start<D> {
 /// How far a run's hand came.
 #[derive(Drop)]
 pub(crate) struct Keeper {
-    // None where it was used up.
+    // None once taking a group has failed.
     pub bank: Option<Bank>,
     // How many groups were taken.
     pub done: usize,
     pub stopped: Option<RunStop>,
 }
 
-// Takes one group more.
+// Takes one more group.
 fn keep_one<D: Desk>(
     alloc: Global,
     start: &Start<D>,
@@ -118,7 +118,7 @@ impl<D: Desk> Hand for RunHand<'_, '_, '_, D> {
     ghost can_put = { λ h. (h.start.now.quanta ≤ MOST_QUANTA)
         × IsOnTheWay D.state h.start.now h.desk.now h.keeper.now };
 
-    // The same desk and keeper, and of the same start. Where the one is on its way, the other is.
+    // Both have the same desk, keeper and start. Where the first is on its way, the second is too.
     ghost goes_to = { λ a b. (b.desk.ghost_name ≡ a.desk.ghost_name) × (b.keeper.ghost_name ≡ a.keeper.ghost_name)
         × (b.start.now ≡ a.start.now)
         × (IsOnTheWay D.state a.start.now a.desk.now a.keeper.now

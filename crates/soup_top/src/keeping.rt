@@ -1,4 +1,4 @@
-//! A run's groups are taken to its bank, and the lines of each are told once the bank has it.
+//! Takes a run's groups to its bank, and tells the lines of each once the bank has it.
 
 ghost use Rattle.std.specs.Prelude.{◌≡◌, ◌↔◌, ◌<◌, ◌≤◌, IfErr, IfOk, IfSome, IsTrue, MatchOption, Some, length, slice_get};
 ghost use Rattle.desk_io.specs.Desk.{Elapses, HasNoFault, KeepsDisk, Tells, TellsText, UsesDisk};
@@ -48,7 +48,7 @@ fn append_group<D: Desk>(desk: &mut D, bank: Bank, group: Group) -> Result<Bank,
     Ok(bank.append(desk, group)?)
 }
 
-// Whether the bank's group of the number fits the run's, where the bank has one.
+// Whether the bank's group of this number fits the run's, where the bank has one.
 fn fits_at(bank: &Bank, number: usize, group: &Group) -> Option<bool>
     ensures { MatchOption result (length bank.now.groups ≤ number) (λ fits. (d : GroupFields)
         × (slice_get bank.now.groups number ≡ Some d)
@@ -58,7 +58,7 @@ fn fits_at(bank: &Bank, number: usize, group: &Group) -> Option<bool>
     Some(fits(kept, group))
 }
 
-// Sees that the bank's group of the number fits the run's, or appends that one.
+// Checks that the bank's group of this number fits the run's, or appends the run's where the bank has none.
 fn keep_group<D: Desk>(
     desk: &mut D,
     bank: Bank,
@@ -84,7 +84,7 @@ fn keep_group<D: Desk>(
     }
 }
 
-/// Takes a run's group of the number to the bank, and then tells its lines.
+/// Takes the run's group of this number to the bank, and then tells its lines.
 pub(crate) fn take_group<D: Desk>(
     alloc: Global,
     desk: &mut D,

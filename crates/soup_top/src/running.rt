@@ -4,14 +4,14 @@ ghost use Rattle.std.specs.Prelude.{◌≡◌, ◌<◌, ◌≤◌, ℕ, IfErr, I
 ghost use Rattle.bank_journal.specs.Bank.{Attaches, IsAttached, Refuses, SaysAsBefore};
 ghost use Rattle.bank_journal.specs.Steps.{IfTold, IsUnwritten};
 ghost use Rattle.bank_recover.specs.Bank.{IsFresh};
-ghost use Rattle.bank_recover.specs.declared.faults.BankFault.{BankFault};
 ghost use Rattle.desk_io.specs.Desk.{Appended, Elapses, HasNoFault, KeepsDisk, TellsText, UsesDisk};
 ghost use Rattle.report_text.specs.Bank.{saved_lines};
-ghost use Rattle.soup_hold.specs.Holding.{AppendedLess};
-ghost use Rattle.soup_top.specs.Genebank.{BeginsWith, DiskIsOfHistory, IsFirstToDiffer, IsTrueMoment, KeepsUp, RefusesRun, digest_of};
-ghost use Rattle.soup_top.specs.Keeping.{Completes, IsKeeping, IsToldAtRefusal};
+ghost use Rattle.soup_top.specs.Ending.{HasMomentsFor, IsDoneFor, IsStoppedFor};
+ghost use Rattle.soup_top.specs.Genebank.{IsFirstToDiffer, digest_of};
+ghost use Rattle.soup_top.specs.Keeping.{Completes, IsKeeping};
 ghost use Rattle.soup_top.specs.Sources.{run_groups, run_report, run_text};
-ghost use Rattle.soup_top.specs.Stops.{CountsStops, IfDiffers, IfHoldRefused, IfRefused, UnlessTelling};
+ghost use Rattle.soup_top.specs.Stops.{CountsStops, IfDiffers, OnlyRefused, TellsUnlessStopped};
+ghost use Rattle.soup_top.specs.declared.asking.Task.TheVariants as Task;
 ghost use Rattle.tierra_model.specs.declared.limits.TheConstants.{MOST_QUANTA, MOST_WORKERS};
 
 use crate::hand::{Keeper, Start, keep_book};
@@ -31,9 +31,7 @@ use tierra_model::{Setup, Text};
 fn attach<D: Desk>(alloc: Global, desk: &mut D, setup: &Setup) -> Result<Bank, RunStop>
     requires sound { HasNoFault (D.state desk.old) }
     ensures attached { IfOk result (Attaches (digest_of setup.now) (D.state desk.old) (D.state desk.new)) }
-    ensures refused { IfErr result (λ s. IfRefused s
-        (Refuses (digest_of setup.now) (D.state desk.old) (D.state desk.new))) }
-    ensures of_bank { IfErr result (λ s. IfHoldRefused s (λ f. ⊥)) }
+    ensures refused { IfErr result (OnlyRefused (Refuses (digest_of setup.now) (D.state desk.old) (D.state desk.new))) }
     ensures kept { OnOk result (IfSome (D.state desk.old).reads (λ file. (IsFresh file → ⊥)
         → IsUnwritten (D.state desk.old) (D.state desk.new))) }
     ensures quiet { IfSome (D.state desk.old).reads (λ file. (IsFresh file → ⊥)
@@ -49,8 +47,7 @@ fn attach<D: Desk>(alloc: Global, desk: &mut D, setup: &Setup) -> Result<Bank, R
     }
 }
 
-// Runs the setup with a crew, takes the groups to the bank as they come, telling the lines of each, and gives the
-// report.
+// Runs the setup with a crew, takes the groups to the bank as they come, tells the lines of each, and gives the report.
 fn run_with_crew<R: Threads + Wait + Sync, G: Gate + Sync, D: Desk>(
     rt: &R,
     alloc: Global,
@@ -64,12 +61,12 @@ fn run_with_crew<R: Threads + Wait + Sync, G: Gate + Sync, D: Desk>(
     requires quanta { (1 ≤ quanta) × (quanta ≤ MOST_QUANTA) }
     requires workers { (1 ≤ workers) × (workers ≤ MOST_WORKERS) }
     requires attached { IsAttached bank (D.state desk.old) }
-    ensures report { IfOk result (λ text. text ≡ run_report setup quanta) }
-    ensures completed { OnOk result (Completes bank (run_groups setup quanta) (D.state desk.old) (D.state desk.new)) }
+    ensures completed { IfOk result (λ text. (text ≡ run_report setup quanta)
+        × Completes bank (run_groups setup quanta) (D.state desk.old) (D.state desk.new)) }
     ensures differs { IfErr result (λ s. IfDiffers s (λ k. IsFirstToDiffer bank.groups (run_groups setup quanta) k
         × Appended (D.state desk.old).told (saved_lines (take k (run_groups setup quanta))) (D.state desk.new).told)) }
 
-    // Where a group differs, whatever comes, the disk is left alone.
+    // Where a group differs, the disk is left alone, whatever the answer.
     ensures kept { (k : ℕ) → IsFirstToDiffer bank.groups (run_groups setup quanta) k
         → KeepsDisk (D.state desk.old) (D.state desk.new) }
     ensures moments { IfSome (D.state desk.old).reads (λ file. Elapses (D.state desk.old) (D.state desk.new)
@@ -95,7 +92,7 @@ fn run_with_crew<R: Threads + Wait + Sync, G: Gate + Sync, D: Desk>(
     keep_book(rt, alloc, gate, &start, desk, &mut keeper, book, workers)
 }
 
-// The same, and then tells the report.
+// Does the same, and then tells the report.
 fn keep_and_report<R: Threads + Wait + Sync, G: Gate + Sync, D: Desk>(
     rt: &R,
     alloc: Global,
@@ -116,9 +113,7 @@ fn keep_and_report<R: Threads + Wait + Sync, G: Gate + Sync, D: Desk>(
         → KeepsDisk (D.state desk.old) (D.state desk.new) }
     ensures moments { IfSome (D.state desk.old).reads (λ file. Elapses (D.state desk.old) (D.state desk.new)
         (IsKeeping bank.digest bank.groups (run_groups setup quanta) (run_text setup quanta) (D.state desk.old).told)) }
-    ensures told { TellsText (D.state desk.old) (D.state desk.new) (run_text setup quanta) result }
-    ensures unfinished { IfErr result (λ s. UnlessTelling s
-        (AppendedLess (D.state desk.old).told (run_text setup quanta) (D.state desk.new).told)) }
+    ensures told { TellsUnlessStopped (D.state desk.old) (D.state desk.new) (run_text setup quanta) result }
     ensures counts { CountsStops result (D.state desk.new) }
 {
     let report = run_with_crew(rt, alloc, desk, gate, bank, setup, quanta, workers)?;
@@ -140,22 +135,10 @@ pub(crate) fn run<R: Threads + Wait + Sync, G: Gate + Sync, D: Desk>(
     requires quanta { (1 ≤ quanta) × (quanta ≤ MOST_QUANTA) }
     requires workers { (1 ≤ workers) × (workers ≤ MOST_WORKERS) }
     requires sound { HasNoFault (D.state desk.old) }
-    ensures told { TellsText (D.state desk.old) (D.state desk.new) (run_text setup quanta) result }
-    ensures unfinished { IfErr result (λ s. UnlessTelling s
-        (AppendedLess (D.state desk.old).told (run_text setup quanta) (D.state desk.new).told)) }
-    ensures begins { OnOk result (IfSome (D.state desk.old).reads (λ file.
-        BeginsWith setup quanta file (D.state desk.new).reads (D.state desk.new).may_leave)) }
-    ensures refused { IfErr result (λ s. IfRefused s (λ f. IfSome (D.state desk.old).reads (λ file.
-        RefusesRun setup quanta file f × ((D.state desk.new).reads ≡ (D.state desk.old).reads)
-        × IsToldAtRefusal (run_groups setup quanta) (D.state desk.old).told (D.state desk.new).told f))) }
-    ensures of_bank { IfErr result (λ s. IfHoldRefused s (λ f. ⊥)) }
-
-    // Where the file as it was read is refused to the run, it is not written at any moment, whatever comes.
-    ensures quiet { IfSome (D.state desk.old).reads (λ file. (f : BankFault) → RefusesRun setup quanta file f
-        → Elapses (D.state desk.old) (D.state desk.new) (λ image text. (D.state desk.old).may_leave image)) }
-    ensures moments { DiskIsOfHistory setup (D.state desk.old).reads (D.state desk.old).may_leave
-        → Elapses (D.state desk.old) (D.state desk.new) (IsTrueMoment setup quanta (D.state desk.old).told) }
-    ensures kept_up { KeepsUp setup quanta (D.state desk.old) (D.state desk.new) }
+    ensures done { OnOk result (IsDoneFor (Task.Run setup quanta workers) (D.state desk.old) (D.state desk.new)) }
+    ensures stopped { IfErr result
+        (IsStoppedFor (Task.Run setup quanta workers) (D.state desk.old) (D.state desk.new)) }
+    ensures moments { HasMomentsFor (Task.Run setup quanta workers) (D.state desk.old) (D.state desk.new) }
     ensures counts { CountsStops result (D.state desk.new) }
 {
     let bank = match attach(alloc, desk, &setup) {

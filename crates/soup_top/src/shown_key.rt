@@ -33,7 +33,7 @@ fn add_byte(text: &mut Vec<u8>, key: &[u8], place: usize) -> Result<(), OutOfMem
     Ok(())
 }
 
-// The first of the two bytes of a control character.
+// Whether the byte at the place is the first of a control character's two bytes.
 fn begins_control(key: &[u8], place: usize) -> bool
     requires { place < length key.now }
     ensures { result ≡ begins_control key.now place }
@@ -41,7 +41,7 @@ fn begins_control(key: &[u8], place: usize) -> bool
     key[place] == 0xc2 && place + 1 < key.len() && is_high_control(key[place + 1])
 }
 
-// The second of them.
+// Whether the byte at the place is the second of a control character's two bytes.
 fn ends_control(key: &[u8], place: usize) -> bool
     requires { place < length key.now }
     ensures { result ≡ ends_control key.now place }
@@ -49,14 +49,14 @@ fn ends_control(key: &[u8], place: usize) -> bool
     place > 0 && key[place - 1] == 0xc2 && is_high_control(key[place])
 }
 
-// A control character of one byte.
+// Whether the byte is a control character by itself.
 fn is_low_control(byte: u8) -> bool
     ensures { result ≡ is_low_control byte }
 {
     byte < 0x20 || byte == 0x7f
 }
 
-// The second byte of a control character of two bytes, where the first is before it.
+// Whether the byte, after the byte 0xc2, makes a control character of two bytes.
 fn is_high_control(byte: u8) -> bool
     ensures { result ≡ is_high_control byte }
 {

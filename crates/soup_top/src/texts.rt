@@ -41,7 +41,7 @@ pub(crate) fn file_text<R: Threads + Sync>(
     }
 }
 
-/// The dump of the world after so many quanta.
+/// The dump of the world after this many quanta.
 fn dump_after(alloc: Global, setup: &Setup, quanta: u64) -> Result<Text, OutOfMemory>
     requires { quanta ≤ MOST_QUANTA }
     ensures { IfOk result (λ text. text ≡ dump (serial setup.now quanta)) }

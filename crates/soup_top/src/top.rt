@@ -1,24 +1,24 @@
 //! The call that does all that the program does.
 
-ghost use Rattle.std.specs.Prelude.{◌-◌, ◌≡◌, ◌⊎◌, ◌+◌, ◌<◌, ◌≤◌, ℕ, List, Some, IfErr, IfSome, OnErr, OnOk, Option, take};
+ghost use Rattle.std.specs.Prelude.{◌-◌, ◌≡◌, ◌⊎◌, ◌+◌, ◌<◌, ◌≤◌, ℕ, List, Some, IfErr, IfSome, OnOk, Option};
 ghost use Rattle.tierra_model.specs.declared.limits.TheConstants.{MOST_WORKERS};
 ghost use Rattle.bank_recover.specs.declared.faults.BankFault.{BankFault};
 ghost use Rattle.soup_top.specs.declared.asking.TheConstants.{MOST_BYTES};
-ghost use Rattle.desk_io.specs.Desk.{Appended, Elapses, HasNoFault, IsTellCall, Untouched};
+ghost use Rattle.desk_io.specs.Desk.{HasNoFault, IsTellCall, KeepsDisk, Untouched};
 ghost use Rattle.desk_io.specs.Source.{GivesAtMost, HasNoReadFault, IsDrained};
 ghost use Rattle.soup_checkpoint.specs.declared.faults.HoldFault.{HoldFault};
-ghost use Rattle.soup_hold.specs.Holding.{CanHold, IsCutShort, IsEarly, IsHoldText, RefusesHold};
-ghost use Rattle.soup_watch.specs.Watching.{IsWatchText};
+ghost use Rattle.soup_hold.specs.Holding.{CanHold, IsEarly, RefusesHold};
 ghost use Rattle.soup_words.specs.Orders.{IsInRange};
 ghost use Rattle.soup_words.specs.declared.order.Order.{Order};
 ghost use Rattle.tierra_model.specs.Groups.{GroupFields};
 ghost use Rattle.soup_top.specs.Answers.{Cause, DiskIsOfHold, DiskIsOfRun, EachHold, EachMoment, EachRun, GivesNothingToWrite, IsAllTold, IsToldInPart, IsUnfinished, OnBankRefused, OnDone, OnHoldRefused, OnReadWhole, OnStopped, OnUncalled, UnlessDiskFault, UnlessReadFault, UnlessTellFault};
-ghost use Rattle.soup_top.specs.Checkpoints.{DiskHoldsSerial, HasTrueMoments, IsLeftAlone, IsTrueHold, Resumes};
-ghost use Rattle.soup_top.specs.Genebank.{BeginsWith, DiskIsOfHistory, HasGroups, IsInStep, IsTrueMoment, KeepsUp, RefusesRun};
+ghost use Rattle.soup_top.specs.Checkpoints.{DiskHoldsSerial, IsTrueHold, Resumes};
+ghost use Rattle.soup_top.specs.Ending.{HasMomentsFor, IsDoneFor, IsStoppedFor};
+ghost use Rattle.soup_top.specs.Genebank.{BeginsWith, DiskIsOfHistory, HasGroups, IsInStep, IsTrueMoment, RefusesRun};
 ghost use Rattle.soup_top.specs.Keeping.{IsToldAtRefusal};
 ghost use Rattle.soup_top.specs.Sources.{IsTextOf, read_by, run_groups};
-ghost use Rattle.soup_top.specs.Stops.{CountsStops, IfHoldRefused, IfRefused, UnlessTelling};
-ghost use Rattle.soup_top.specs.Tasks.{IsCutShortFor, IsFew, IsPartlyToldFor, IsToldFor, IsToldWhenRefused, OfHold, OfRun, OfText, RefusesHolding, RefusesTask, UnlessWriting};
+ghost use Rattle.soup_top.specs.Stops.{CountsStops};
+ghost use Rattle.soup_top.specs.Tasks.{IsFew, OfText, UnlessWriting};
 ghost use Rattle.soup_top.specs.Words.{AsksFor, ReadsSource, kind_of, texts_of};
 
 use crate::asking::{Task, task_asked};
@@ -37,7 +37,7 @@ use std::sync::Wait;
 use std::thread::Threads;
 use tierra_model::{Setup, Text};
 
-/// Tells the text. An empty one is no tell.
+/// Tells the text, with no call where it is empty.
 fn tell_some<D: Desk>(desk: &mut D, text: &Text) -> Result<(), TellFailed>
     requires sound { HasNoFault (D.state desk.old) }
     ensures call { IsTellCall (D.state desk.old) (D.state desk.new) text.now result }
@@ -48,7 +48,7 @@ fn tell_some<D: Desk>(desk: &mut D, text: &Text) -> Result<(), TellFailed>
     desk.tell(&text.items)
 }
 
-/// Tells something of what the genebank's file holds.
+/// Tells what the order asks of the genebank in the disk's file.
 fn tell_bank<R: Threads + Sync, D: Desk>(
     rt: &R,
     alloc: Global,
@@ -57,16 +57,9 @@ fn tell_bank<R: Threads + Sync, D: Desk>(
 ) -> Result<(), RunStop>
     requires range { IsInRange order }
     requires sound { HasNoFault (D.state desk.old) }
-    ensures told { OnOk result (IsToldFor (Task.Bank order) (D.state desk.old).reads (D.state desk.old).told
-        (D.state desk.new).told) }
-    ensures partly { OnErr result (IsPartlyToldFor (Task.Bank order) (D.state desk.old).reads (D.state desk.old).told
-        (D.state desk.new).told) }
-    ensures unfinished { IfErr result (λ s. UnlessTelling s ((D.state desk.new).told ≡ (D.state desk.old).told)) }
-    ensures refused { IfErr result (λ s. IfRefused s (λ f. RefusesTask (Task.Bank order) (D.state desk.old).reads f
-        × ((D.state desk.new).told ≡ (D.state desk.old).told)
-        × Elapses (D.state desk.old) (D.state desk.new) (λ image text. (D.state desk.old).may_leave image))) }
-    ensures of_bank { IfErr result (λ s. IfHoldRefused s (λ f. ⊥)) }
-    ensures untouched { Untouched (D.state desk.old) (D.state desk.new) }
+    ensures done { OnOk result (IsDoneFor (Task.Bank order) (D.state desk.old) (D.state desk.new)) }
+    ensures stopped { IfErr result (IsStoppedFor (Task.Bank order) (D.state desk.old) (D.state desk.new)) }
+    ensures kept { KeepsDisk (D.state desk.old) (D.state desk.new) }
     ensures counts { CountsStops result (D.state desk.new) }
 {
     let groups = read_bank(alloc, desk)?;
@@ -86,14 +79,8 @@ fn watch_and_tell<R: Threads + Wait + Sync, G: Gate + Sync, D: Desk>(
     requires range { IsInRange order }
     requires workers { order.workers ≤ MOST_WORKERS - 1 }
     requires sound { HasNoFault (D.state desk.old) }
-    ensures told { OnOk result ((text : List ℕ) × IsWatchText setup order.quanta order.looks text
-        × Appended (D.state desk.old).told text (D.state desk.new).told) }
-    ensures partly { OnErr result (((D.state desk.new).told ≡ (D.state desk.old).told)
-        ⊎ ((text : List ℕ) × (k : ℕ) × IsWatchText setup order.quanta order.looks text
-        × Appended (D.state desk.old).told (take k text) (D.state desk.new).told)) }
-    ensures unfinished { IfErr result (λ s. UnlessTelling s ((D.state desk.new).told ≡ (D.state desk.old).told)) }
-    ensures refused { IfErr result (λ s. IfRefused s (λ f. ⊥)) }
-    ensures no_hold { IfErr result (λ s. IfHoldRefused s (λ f. ⊥)) }
+    ensures done { OnOk result (IsDoneFor (Task.Watch setup order) (D.state desk.old) (D.state desk.new)) }
+    ensures stopped { IfErr result (IsStoppedFor (Task.Watch setup order) (D.state desk.old) (D.state desk.new)) }
     ensures untouched { Untouched (D.state desk.old) (D.state desk.new) }
     ensures disk { (D.state desk.new).disk_faults ≡ 0 }
     ensures counts { CountsStops result (D.state desk.new) }
@@ -103,7 +90,7 @@ fn watch_and_tell<R: Threads + Wait + Sync, G: Gate + Sync, D: Desk>(
     Ok(desk.tell(&text.items)?)
 }
 
-/// Runs the setup from its last checkpoint, keeps checkpoints, and tells that.
+/// Runs the setup from its last checkpoint, keeps checkpoints, and tells a line for each and the report.
 fn hold_and_tell<D: Desk>(
     alloc: Global,
     desk: &mut D,
@@ -112,26 +99,9 @@ fn hold_and_tell<D: Desk>(
 ) -> Result<(), RunStop>
     requires range { IsInRange order }
     requires sound { HasNoFault (D.state desk.old) }
-    ensures told { OnOk result ((text : List ℕ)
-        × IsHoldText setup order.quanta order.every (D.state desk.old).reads text
-        × Appended (D.state desk.old).told text (D.state desk.new).told) }
-    ensures partly { OnErr result (((D.state desk.new).told ≡ (D.state desk.old).told)
-        ⊎ ((text : List ℕ) × (k : ℕ) × IsHoldText setup order.quanta order.every (D.state desk.old).reads text
-        × Appended (D.state desk.old).told (take k text) (D.state desk.new).told)) }
-    ensures unfinished { IfErr result (λ s. UnlessTelling s (IsCutShort setup order.quanta order.every
-        (D.state desk.old).reads (D.state desk.old).told (D.state desk.new).told)) }
-    ensures of_hold { IfErr result (λ s. IfRefused s (λ f. ⊥)) }
-    ensures refused { IfErr result (λ s. IfHoldRefused s
-        (RefusesHold setup order.quanta order.every (D.state desk.old).reads)) }
-    ensures early { IfErr result (λ s. IfHoldRefused s (λ f. IsEarly f
-        → IsLeftAlone (D.state desk.old) (D.state desk.new))) }
-    ensures quiet { (f : HoldFault) → IsEarly f → IfSome (D.state desk.old).reads (λ file.
-        RefusesHold setup order.quanta order.every (Some file) f
-        → Elapses (D.state desk.old) (D.state desk.new) (λ image text. (D.state desk.old).may_leave image)) }
-    ensures small { OnOk result (IfSome (D.state desk.old).reads (λ file.
-        CanHold setup order.quanta order.every (Some file))) }
-    ensures resumed { OnOk result (Resumes setup order.quanta order.every (D.state desk.old) (D.state desk.new)) }
-    ensures moments { HasTrueMoments setup order.quanta order.every (D.state desk.old) (D.state desk.new) }
+    ensures done { OnOk result (IsDoneFor (Task.Hold setup order) (D.state desk.old) (D.state desk.new)) }
+    ensures stopped { IfErr result (IsStoppedFor (Task.Hold setup order) (D.state desk.old) (D.state desk.new)) }
+    ensures moments { HasMomentsFor (Task.Hold setup order) (D.state desk.old) (D.state desk.new) }
     ensures counts { CountsStops result (D.state desk.new) }
 {
     Ok(hold(alloc, desk, &setup, order.quanta, order.every)?)
@@ -147,39 +117,9 @@ fn carry_out<R: Threads + Wait + Sync, G: Gate + Sync, D: Desk>(
 ) -> Result<(), RunStop>
     requires few { IsFew task }
     requires sound { HasNoFault (D.state desk.old) }
-    ensures told { OnOk result (IsToldFor task (D.state desk.old).reads (D.state desk.old).told
-        (D.state desk.new).told) }
-    ensures partly { OnErr result (IsPartlyToldFor task (D.state desk.old).reads (D.state desk.old).told
-        (D.state desk.new).told) }
-    ensures unfinished { IfErr result (λ s. UnlessTelling s (IsCutShortFor task (D.state desk.old).reads
-        (D.state desk.old).told (D.state desk.new).told)) }
-    ensures begins { OnOk result (OfRun task (λ setup n. IfSome (D.state desk.old).reads (λ file.
-        BeginsWith setup n file (D.state desk.new).reads (D.state desk.new).may_leave))) }
-    ensures moments { OfRun task (λ setup n. DiskIsOfHistory setup (D.state desk.old).reads (D.state desk.old).may_leave
-        → Elapses (D.state desk.old) (D.state desk.new) (IsTrueMoment setup n (D.state desk.old).told)) }
-    ensures kept_up { OfRun task (λ setup n. KeepsUp setup n (D.state desk.old) (D.state desk.new)) }
-    ensures refused { IfErr result (λ s. IfRefused s (λ f. RefusesTask task (D.state desk.old).reads f)) }
-    ensures hold_refused { IfErr result (λ s. IfHoldRefused s (RefusesHolding task (D.state desk.old).reads)) }
-    ensures hold_early { IfErr result (λ s. IfHoldRefused s (λ f. IsEarly f
-        → IsLeftAlone (D.state desk.old) (D.state desk.new))) }
-    ensures hold_quiet { OfHold task (λ setup n every. (f : HoldFault) → IsEarly f
-        → IfSome (D.state desk.old).reads (λ file. RefusesHold setup n every (Some file) f
-        → Elapses (D.state desk.old) (D.state desk.new) (λ image text. (D.state desk.old).may_leave image))) }
-    ensures small { OnOk result (OfHold task (λ setup n every. IfSome (D.state desk.old).reads (λ file.
-        CanHold setup n every (Some file)))) }
-    ensures resumed { OnOk result (OfHold task (λ setup n every.
-        Resumes setup n every (D.state desk.old) (D.state desk.new))) }
-    ensures hold_moments { OfHold task (λ setup n every.
-        HasTrueMoments setup n every (D.state desk.old) (D.state desk.new)) }
-    ensures unwritten { IfErr result (λ s. IfRefused s (λ f. IfSome (D.state desk.old).reads (λ file.
-        (D.state desk.new).reads ≡ (D.state desk.old).reads))) }
-    ensures told_at_refusal { IfErr result (λ s. IfRefused s (λ f. IfSome (D.state desk.old).reads (λ file.
-        IsToldWhenRefused task (D.state desk.old).told (D.state desk.new).told f))) }
-    ensures quiet { IfErr result (λ s. IfRefused s (λ f. IfSome (D.state desk.old).reads (λ file.
-        Elapses (D.state desk.old) (D.state desk.new) (λ image text. (D.state desk.old).may_leave image)))) }
-    ensures quiet_run { OfRun task (λ setup n. IfSome (D.state desk.old).reads (λ file.
-        (f : BankFault) → RefusesRun setup n file f
-        → Elapses (D.state desk.old) (D.state desk.new) (λ image text. (D.state desk.old).may_leave image))) }
+    ensures done { OnOk result (IsDoneFor task (D.state desk.old) (D.state desk.new)) }
+    ensures stopped { IfErr result (IsStoppedFor task (D.state desk.old) (D.state desk.new)) }
+    ensures moments { HasMomentsFor task (D.state desk.old) (D.state desk.new) }
     ensures untouched { UnlessWriting task (Untouched (D.state desk.old) (D.state desk.new)) }
     ensures disk { OfText task ((D.state desk.new).disk_faults ≡ 0) }
     ensures counts { CountsStops result (D.state desk.new) }
@@ -211,12 +151,12 @@ pub fn tierra<R: Threads + Wait + Sync, S: Source, D: Desk, G: Gate + Sync>(
     requires source_sound { HasNoReadFault (S.state source.old) }
     requires sound { HasNoFault (D.state desk.old) }
 
-    // Done has told the whole text that was asked for, and nothing else: of a run the saved lines and the report of the
-    // world that the serial slicer reaches.
+    // At Done the whole text that was asked for was told, and nothing else. For a run this is the saved lines and the
+    // report of the world that the serial slicer reaches.
     ensures done { OnDone result (IsAllTold (texts_of words.now) (S.state source.old).left (D.state desk.old).reads
         (D.state desk.old).told (D.state desk.new).told) }
 
-    // A run that is done leaves a genebank that begins with that world's.
+    // A run that is done leaves a genebank whose first groups fit the groups of that run.
     ensures begins { OnDone result (EachRun (texts_of words.now) (S.state source.old).left (λ setup n.
         IfSome (D.state desk.old).reads (λ file.
         BeginsWith setup n file (D.state desk.new).reads (D.state desk.new).may_leave))) }
@@ -228,9 +168,9 @@ pub fn tierra<R: Threads + Wait + Sync, S: Source, D: Desk, G: Gate + Sync>(
         → EachMoment (D.state desk.old) (D.state desk.new) (IsTrueMoment setup n (D.state desk.old).told)) }
 
     // Where the file had groups of the setup, or none yet, there are two cases at every moment of a run, whatever it
-    // answers. What a crash leaves says what the file said at the start, or what a crash might have left of it then, and
-    // nothing was told since. Or it says those groups and, of the run's first k groups, those that were lacking. Then these
-    // k fit, the lines of the first k - 1 were told, and no line after that of group k.
+    // answers. What a crash leaves says what the file said at the start, or what a crash might have left of it then,
+    // and nothing was told since. Or it says those groups and those of the run's first k groups that they lack. Then
+    // the first k groups fit, the lines of the first k - 1 were told, and no line of a group after the first k.
     ensures kept_up { EachRun (texts_of words.now) (S.state source.old).left (λ setup n.
         IfSome (D.state desk.old).reads (λ file. (had : List GroupFields) → HasGroups setup had file
         → EachMoment (D.state desk.old) (D.state desk.new)
@@ -246,7 +186,8 @@ pub fn tierra<R: Threads + Wait + Sync, S: Source, D: Desk, G: Gate + Sync>(
         IfSome (D.state desk.old).reads (λ file. CanHold setup n every (Some file)))) }
 
     // At every moment of it, whatever it answers, a crash leaves what the file held at the start, or a later checkpoint
-    // of the serial run: none earlier than one that was told, and at most one that was not.
+    // of the serial run. No checkpoint that was told is later, and of those up to it at most this last one was not told
+    // yet.
     ensures checkpoints { EachHold (texts_of words.now) (S.state source.old).left (λ setup n every. (start : Option ℕ)
         → DiskHoldsSerial setup start (D.state desk.old).reads (D.state desk.old).may_leave
         → EachMoment (D.state desk.old) (D.state desk.new) (IsTrueHold setup n every start (D.state desk.old).told)) }
@@ -256,9 +197,9 @@ pub fn tierra<R: Threads + Wait + Sync, S: Source, D: Desk, G: Gate + Sync>(
         (0 < (S.state source.new).faults) (0 < (D.state desk.new).disk_faults)
         (0 < (D.state desk.new).tell_faults) result }
 
-    // Accepted words and bytes give Done or want of memory where no call failed. A run needs a disk of its history
-    // besides. One with checkpoints needs a file that can be read and does not go beyond the run, and states that are
-    // not too large.
+    // Where no call failed, accepted words and bytes give Done or want of memory. For this a run also needs a disk of
+    // its history. A run with checkpoints needs a file that can be read and does not go beyond the run, and states that
+    // are not too large.
     ensures complete { (order : Order) (bytes text : List ℕ) → AsksFor (texts_of words.now) order
         → read_by (kind_of order) (S.state source.old).left (D.state desk.old).reads ≡ Some bytes
         → IsTextOf order bytes (D.state desk.old).reads text
@@ -267,7 +208,7 @@ pub fn tierra<R: Threads + Wait + Sync, S: Source, D: Desk, G: Gate + Sync>(
         → HasNoReadFault (S.state source.new) → (D.state desk.new).disk_faults ≡ 0 → (D.state desk.new).tell_faults ≡ 0
         → (result ≡ Status.Done) ⊎ (result ≡ Status.OutOfMemory) }
 
-    // Whatever the answer, what was told is the beginning of that text. At any answer but Done and a failed tell, nothing
+    // Whatever the answer, what was told is a beginning of that text. At any answer but Done and a failed tell, nothing
     // was told or some of the text is lacking. Refused words, a refused source and a failed read leave the desk alone.
     ensures prefix { IsToldInPart (texts_of words.now) (S.state source.old).left (D.state desk.old).reads
         (D.state desk.old).told (D.state desk.new).told }
@@ -301,14 +242,15 @@ pub fn tierra<R: Threads + Wait + Sync, S: Source, D: Desk, G: Gate + Sync>(
     ensures untouched { GivesNothingToWrite (texts_of words.now) (S.state source.old).left
         → Untouched (D.state desk.old) (D.state desk.new) }
 
-    // A source is read to its end, and never further than one byte past the most. The genebank is told without one.
+    // A source is read to its end, and never further than one byte past MOST_BYTES. Actions that only tell
+    // something of the genebank read no source.
     ensures to_its_end { (order : Order) → AsksFor (texts_of words.now) order → ReadsSource (kind_of order)
         → OnReadWhole result (IsDrained (S.state source.old) (S.state source.new)) }
     ensures unread { (order : Order) → AsksFor (texts_of words.now) order → (ReadsSource (kind_of order) → ⊥)
         → source.new ≡ source.old }
     ensures no_further { GivesAtMost (MOST_BYTES + 1) (S.state source.old) (S.state source.new) }
 
-    // A count that rose is the answer.
+    // A count of faults rises only where that fault is the answer.
     ensures source_steady { UnlessReadFault result (HasNoReadFault (S.state source.new)) }
     ensures disk_steady { UnlessDiskFault result ((D.state desk.new).disk_faults ≡ 0) }
     ensures tell_steady { UnlessTellFault result ((D.state desk.new).tell_faults ≡ 0) }

@@ -14,27 +14,27 @@ pub record IsDone (at : LockFields) (caller : ℕ) (seat : SeatFields) : Type 0 
   pub turns : seat.turns ≤ 8000002
   pub speaks : is_some (own_of seat caller) ≡ true
 
--- worker 1's, from which the observer's was split off last
+-- worker 1's seat, from which the observer's was split off last
 pub record IsLead (at : LockFields) (observer : ℕ) (seat : SeatFields) : Type 0 where
   pub lock : seat.lock ≡ at
   pub last : seat.last_caller ≡ Some observer
   pub turns : seat.turns ≤ 8000002
   pub speaks : is_some (own_of seat 1) ≡ true
 
--- the observer's, joined with those of the workers from this caller on
+-- the observer's seat, joined with the seats of the workers from this caller on
 pub record IsJoined (at : LockFields) (caller observer : ℕ) (seat : SeatFields) : Type 0 where
   pub lock : seat.lock ≡ at
   pub last : seat.last_caller ≡ None
   pub turns : seat.turns ≤ 500000001000 + 8000002 * (observer - caller)
   pub speaks : (c : ℕ) → caller ≤ c → c ≤ observer → is_some (own_of seat c) ≡ true
 
--- so many sights of the setup's worlds, the last of no later quantum than was seen
+-- `count` sights of the setup's worlds, the last of no later quantum than the observer has seen
 pub record HasSeen (setup : SetupFields) (count seen : ℕ) (sights : List Sight) : Type 0 where
   pub count_is : length sights ≡ count
   pub each : All (IsSightOf setup) sights
   pub last : IfSome (last_of sights) (λ s. s.quanta ≤ seen)
 
--- the observer has looked so often, and the workers from this caller on have ended
+-- the observer has looked `looks` times, and the workers from this caller on have ended
 pub record IsWatched (setup : SetupFields) (at : LockFields) (caller observer looks : ℕ) (w : Watched) : Type 0 where
   pub lead : IsLead at observer w.lead
   pub joined : IsJoined at caller observer w.observer

@@ -15,7 +15,7 @@ count_of w k = record { name = name_of w.genotypes k; living = number_with w.liv
 abbrev pub lives : Count → Bool
 lives c = nat_lt 0 c.living
 
--- of each genotype that lives, in the order of first birth
+-- the count of each genotype that lives, in the order of first birth
 abbrev pub counts_of : World → List Count
 counts_of w = filter lives (map (count_of w) (range_with_len 0 (length w.genotypes)))
 
@@ -25,7 +25,7 @@ sight_of w =
 
 -- ---- one sight after another
 
--- what contracts see: the sights, and how many more need no memory
+-- what contracts see: the sights, and how many more can be added without memory
 pub record SightsFields : Type 0 where
   pub sights : List Sight
   pub spare : ℕ

@@ -7,11 +7,11 @@ use Rattle.soup_watch.specs.declared.sight.Sight.{Sight}
 use Rattle.soup_watch.specs.Seeing.{NeverFalls, last_of, sight_of}
 use Rattle.soup_watch.specs.Text.{sights_text}
 
--- it is of the setup's world after some quantum
+-- the sight is of the setup's world after some quantum
 abbrev pub IsSightOf : SetupFields → Sight → Type 0
 IsSightOf setup s = (m : ℕ) × (s ≡ sight_of (serial setup m))
 
--- The sights of so many looks at a run of n quanta, and last that of its end.
+-- The sights of `looks` looks at a run of n quanta, and last the sight of its end.
 pub record AreSights (setup : SetupFields) (n looks : ℕ) (sights : List Sight) : Type 0 where
   pub count : length sights ≡ looks + 1
   pub each : All (IsSightOf setup) sights

@@ -1,8 +1,8 @@
-//! A look at the world behind the turn lock.
+//! A look at the world that the turn lock guards.
 
 ghost use Rattle.std.specs.Prelude.{◌≡◌, ◌+◌, ◌<◌, ◌≤◌, ◌^◌, ℕ, IfOk};
 ghost use Rattle.tierra_model.specs.Serial.{serial};
-ghost use Rattle.turn_lock.specs.Seat.{own_of};
+ghost use Rattle.turn_lock.specs.Seat.{IsSameSeat, own_of};
 ghost use Rattle.commit_book.specs.Book.{world_of};
 ghost use Rattle.soup_watch.specs.Seeing.{sight_of};
 
@@ -14,7 +14,7 @@ use tierra_model::OutOfMemory;
 use turn_lock::{Seat, TurnLock};
 
 /// Takes a turn, looks at the world, and gives the book back as it was. The seat has then seen what it looked at, and
-/// nothing is committed. Want of memory ends the turn all the same.
+/// nothing is committed. The turn ends even where there is no memory for the sight.
 pub fn look<R: Wait>(
     rt: &R,
     alloc: Global,
@@ -26,10 +26,8 @@ pub fn look<R: Wait>(
     ensures sight { IfOk result.1 (λ s. s ≡ sight_of (serial lock.now.opening.setup.0 result.0.seen)) }
     ensures quanta { IfOk result.1 (λ s. s.quanta ≡ result.0.seen) }
     ensures seen { seat.seen ≤ result.0.seen }
-    ensures lock { result.0.lock ≡ seat.lock }
-    ensures caller { result.0.caller ≡ seat.caller }
+    ensures seat { IsSameSeat seat result.0 }
     ensures own { (c : ℕ) → own_of result.0 c ≡ own_of seat c }
-    ensures last { result.0.last_caller ≡ seat.last_caller }
     ensures turns { result.0.turns ≡ seat.turns + 1 }
 {
     let (turn, book) = lock.take(rt, seat);

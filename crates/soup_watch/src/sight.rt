@@ -41,7 +41,7 @@ pub struct Sight {
     pub counts: CountList,
 }
 
-/// What is seen of a world. A genotype of which nobody lives any more is left out.
+/// What is seen of a world. A genotype with no living creature is left out.
 pub fn sight_of(alloc: Global, world: &World) -> Result<Sight, OutOfMemory>
     ensures { IfOk result (λ s. s ≡ sight_of world.now.world) }
 {

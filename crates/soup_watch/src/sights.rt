@@ -8,7 +8,7 @@ use std::alloc::Global;
 use std::marker::Model;
 use tierra_model::OutOfMemory;
 
-/// Sights, one after another. The type keeps that their quanta never fall.
+/// Sights, one after another. The type ensures that their quanta never fall.
 #[derive(Debug, Drop)]
 pub struct Sights {
     pub(crate) items: Vec<Sight>,

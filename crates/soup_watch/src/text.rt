@@ -36,7 +36,7 @@ fn add_sight(alloc: Global, text: &mut Vec<u8>, sight: &Sight) -> Result<(), Out
     Ok(())
 }
 
-// What is seen of the world as a whole.
+// The line of a sight: what is seen of the world as a whole.
 fn add_head(text: &mut String, sight: &Sight) -> Result<(), OutOfMemory>
     ensures { OnOk result (string_bytes text.new ≡ string_bytes text.old ++ head_line sight.now) }
 {

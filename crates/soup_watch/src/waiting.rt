@@ -11,7 +11,7 @@ use turn_lock::{Seat, TurnLock};
 /// The most turns that the observer takes to wait for one look.
 const MOST_TURNS: u64 = 500_000_000;
 
-/// So many turns in which nothing is committed, which take seconds, show that the run stands still.
+/// More turns in a row than this, in which nothing is committed, show that the run stands still. They take seconds.
 const MOST_IDLE_TURNS: u64 = 100_000;
 
 /// How often the observer pauses between two turns, some twenty microseconds in all.
@@ -31,8 +31,8 @@ fn ask<R: Wait>(rt: &R, lock: &TurnLock<Book>, seat: Seat) -> (Seat, u64)
     (lock.give(turn, book), committed)
 }
 
-/// Takes turns until so many quanta are committed, so that looks are spread over a run. A run that was seen to stand
-/// still, as its workers found no memory, is not waited for again.
+/// Takes turns until this many quanta are committed, so that looks are spread over a run. A run that once stood still,
+/// because its workers found no memory, is not waited for again.
 pub(crate) fn wait_until<R: Wait>(
     rt: &R,
     lock: &TurnLock<Book>,

@@ -28,8 +28,8 @@ use step_count::Steps;
 use tierra_model::{OutOfMemory, Setup, Text};
 use turn_lock::{Seat, TurnLock};
 
-/// What comes of the workers and their observer: the seat of worker 1, that of the observer, with which those of the
-/// other workers were joined, and what was seen.
+/// What the workers and their observer leave: the seat of worker 1, the seat of the observer joined with those of the
+/// other workers, and what was seen.
 #[derive(Drop)]
 pub(crate) struct Watched {
     lead: Seat,
@@ -37,7 +37,7 @@ pub(crate) struct Watched {
     sights: Sights,
 }
 
-// A worker's turns, on a seat that is taken.
+// Takes a worker's seat, and works.
 fn work_on<R: Wait, G: Gate>(
     rt: &R,
     alloc: Global,
@@ -56,7 +56,7 @@ fn work_on<R: Wait, G: Gate>(
     work(rt, alloc, lock, seat, gate)
 }
 
-// Worker 1's turns, on a seat from which the observer's was split off.
+// Takes the seat of worker 1, from which the observer's was split off, and works.
 fn lead_on<R: Wait, G: Gate>(
     rt: &R,
     alloc: Global,
@@ -75,7 +75,7 @@ fn lead_on<R: Wait, G: Gate>(
     work(rt, alloc, lock, seat, gate)
 }
 
-// Waits until so many quanta are committed, and looks.
+// Waits until this many quanta are committed, and looks.
 fn look_next<R: Wait>(
     rt: &R,
     alloc: Global,
@@ -100,7 +100,7 @@ fn look_next<R: Wait>(
     Ok(seat)
 }
 
-// Looks so often, spread over the run, and keeps room for one sight more.
+// Looks this many times, spread over the run, and keeps room for one sight more.
 fn observe<R: Wait>(
     rt: &R,
     alloc: Global,
@@ -128,7 +128,7 @@ fn observe<R: Wait>(
     Ok((seat, sights))
 }
 
-// The same, on a seat that is taken.
+// Takes the observer's seat, and does the same.
 fn observe_on<R: Wait>(
     rt: &R,
     alloc: Global,
@@ -150,7 +150,7 @@ fn observe_on<R: Wait>(
     observe(rt, alloc, lock, seat, quanta, looks)
 }
 
-// Worker 1, and the observer beside it.
+// Runs worker 1 and the observer side by side.
 fn with_observer<R: Threads + Wait + Sync, G: Gate + Sync>(
     rt: &R,
     alloc: Global,
@@ -196,7 +196,7 @@ fn with_observer<R: Threads + Wait + Sync, G: Gate + Sync>(
     })
 }
 
-// Worker 1, the workers from `caller` on, and the observer, whose number is the last.
+// Runs worker 1, the workers from `caller` on, and the observer, whose number is the last.
 fn crew_from<R: Threads + Wait + Sync, G: Gate + Sync>(
     rt: &R,
     alloc: Global,
@@ -259,7 +259,7 @@ fn crew_from<R: Threads + Wait + Sync, G: Gate + Sync>(
     })
 }
 
-// Commits one quantum more, where one is left.
+// Commits one more quantum, where one is left.
 fn advance_one(alloc: Global, book: &mut Book, by: u32) -> Result<(), OutOfMemory>
     requires by { (1 ≤ by) × (by ≤ MOST_WORKERS) }
     ensures gives { MayGive by book.old book.new }
@@ -357,9 +357,9 @@ fn told(alloc: Global, sights: &Sights, book: &Book) -> Result<Text, OutOfMemory
     Ok(text)
 }
 
-/// Runs the setup with this many workers and an observer beside them, which looks so often at the world behind the turn
-/// lock. Gives what it saw, what it saw of the end, and the report. The calling thread is worker 1; it commits what the
-/// workers left.
+/// Runs the setup with this many workers and an observer, which looks `looks` times at the world that the turn lock
+/// guards. Gives what it saw, a last sight of the end, and the report. The calling thread is worker 1; it commits what
+/// the workers left.
 pub fn watch<R: Threads + Wait + Sync, G: Gate + Sync>(
     rt: &R,
     alloc: Global,

@@ -8,13 +8,13 @@ use Rattle.soup_words.specs.Split.{given, tierra_app}
 use Rattle.soup_words.specs.Table.{Range, Row, action_named, row_of}
 use Rattle.tierra_model.specs.declared.limits.TheConstants.{MOST_EPOCHS, MOST_ISLES, MOST_LOOKS, MOST_QUANTA, MOST_WORKERS}
 
--- the number that an option's text spells, in its range; without a text it is the default
+-- n is the number that an option's text spells, in its range, or the default if there is no text
 abbrev pub IsValue : Range → Option (List ℕ) → ℕ → ℕ → Type 0
 IsValue range None default n = n ≡ default
 IsValue None (Some text) default n = ⊥
 IsValue (Some range) (Some text) default n = (text ≡ decimal n) × (range.0 ≤ n) × (n ≤ range.1)
 
--- the order of the words
+-- the words give this order
 pub record IsOrderOf (words : List (List ℕ)) (order : Order) : Type 0 where
   pub taken : fault_of tierra_app words ≡ []
   pub action : option_and_then action_named (given words (codes "action")) ≡ Some order.action
@@ -26,7 +26,7 @@ pub record IsOrderOf (words : List (List ℕ)) (order : Order) : Type 0 where
   pub isles : IsValue (Row.isles (row_of order.action)) (given words (codes "isles")) 2 order.isles
   pub epochs : IsValue (Row.epochs (row_of order.action)) (given words (codes "epochs")) 2 order.epochs
 
--- the numbers of an order of any action
+-- the numbers of any order are in range
 pub record IsInRange (order : Order) : Type 0 where
   pub quanta : (1 ≤ order.quanta) × (order.quanta ≤ MOST_QUANTA)
   pub workers : (1 ≤ order.workers) × (order.workers ≤ MOST_WORKERS)
@@ -37,6 +37,6 @@ pub record IsInRange (order : Order) : Type 0 where
   pub isles : (1 ≤ order.isles) × (order.isles ≤ MOST_ISLES)
   pub epochs : (1 ≤ order.epochs) × (order.epochs ≤ MOST_EPOCHS)
 
--- the words ask for a run that is held
+-- the words ask for the action Hold
 abbrev pub AskToHold : List (List ℕ) → Type 0
 AskToHold words = (order : Order) × IsOrderOf words order × (order.action ≡ Hold)

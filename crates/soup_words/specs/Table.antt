@@ -4,14 +4,14 @@ use Rattle.soup_words.specs.declared.order.Action.{Action}
 use Rattle.soup_words.specs.declared.order.Action.TheVariants.{Grow, Run, Asm, Dis, Bank, Drill, Dump, Hold, Curve, Probe, Watch, Isles}
 use Rattle.tierra_model.specs.declared.limits.TheConstants.{MOST_EPOCHS, MOST_ISLES, MOST_LOOKS, MOST_QUANTA, MOST_WORKERS}
 
--- the least and the greatest number of an option, where the action has it
+-- the least and the greatest number of an option, if the action has it
 abbrev pub Range : Type 0
 Range = Option (ℕ × ℕ)
 
 abbrev pub to : ℕ → Range
 to most = Some (1, most)
 
--- what an action is called, and the options that it has
+-- the name of an action, and the options that it has
 pub record Row : Type 0 where
   pub name : List ℕ
   pub quanta : Range
@@ -47,6 +47,6 @@ row_of Isles = record (timed_row (codes "isles")) { workers = to MOST_WORKERS; i
 abbrev pub actions : List Action
 actions = Grow ∷ Run ∷ Asm ∷ Dis ∷ Bank ∷ Drill ∷ Dump ∷ Hold ∷ Curve ∷ Probe ∷ Watch ∷ Isles ∷ []
 
--- the action whose name the text is
+-- the action with this name
 unfoldable pub action_named : List ℕ → Option Action
 action_named text = find (λ action. bytes_eq text (Row.name (row_of action))) actions

@@ -2,7 +2,7 @@
 
 ghost use Rattle.soup_words.specs.Laws.{WordsAreClear};
 
-/// Does nothing: its contract is the law that words give one order at most.
+/// Does nothing: its contract is the law that words give at most one order.
 pub fn words_are_clear()
     ensures { WordsAreClear }
 {}

@@ -10,8 +10,8 @@ use crate::table::Range;
 use std::alloc::Global;
 use tierra_model::OutOfMemory;
 
-/// The number that an option's text spells, which lies in its range, or the default where there is no text. An option
-/// with no range is refused.
+/// The number that an option's text spells, if it is in its range, or the default if there is no text. A text for an
+/// option that the action lacks is refused.
 pub(crate) fn value_of(
     alloc: Global,
     range: Range,

@@ -38,7 +38,7 @@ pub enum Action {
     Isles,
 }
 
-/// What the words ask for. What they leave out, and what the action does not have, has its default.
+/// What the words ask for. Options that they leave out, or that the action lacks, have their defaults.
 #[derive(Clone, Copy, Debug, Drop, PartialEq, Eq)]
 pub struct Order {
     pub action: Action,
@@ -60,8 +60,8 @@ pub enum WordsFault {
 
 /// The order of the words.
 ///
-/// One word is the action. An option stands before or after it, as `--quanta 34` or `--quanta=34`, and once at most.
-/// Where it is left out, `--quanta` is 1000, `--workers` 1, `--number` 0, `--every` 1000, `--looks` 10, `--isles` 2 and
+/// One word is the action. Options come before or after it, as `--quanta 34` or `--quanta=34`, each at most once.
+/// When left out, `--quanta` is 1000, `--workers` 1, `--number` 0, `--every` 1000, `--looks` 10, `--isles` 2 and
 /// `--epochs` 2.
 pub fn read_words(alloc: Global, words: &Vec<String>) -> Result<Order, WordsFault>
     ensures order { IfOk result (IsOrderOf (map string_bytes words.now.items)) }
@@ -92,7 +92,8 @@ pub fn read_words(alloc: Global, words: &Vec<String>) -> Result<Order, WordsFaul
     })
 }
 
-/// The file that the words' action keeps. Words that are refused have the genebank's.
+/// The name of the file for the words: `tierra.hold` if they ask for `hold`, and else `tierra.bank`, even if they are
+/// refused.
 pub fn file_for(alloc: Global, words: &Vec<String>) -> Result<&'static str, OutOfMemory>
     ensures hold { IfOk result (λ name. AskToHold (map string_bytes words.now.items) → name.now ≡ codes "tierra.hold") }
     ensures bank { IfOk result (λ name. (AskToHold (map string_bytes words.now.items) → ⊥)

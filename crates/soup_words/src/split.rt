@@ -1,14 +1,14 @@
 //! The words as `clap` splits them.
 
-ghost use Rattle.std.specs.Prelude.{◌≡◌, ◌≢◌, [], false, IfOk, IsErrOf, codes, map, string_bytes};
-ghost use Rattle.std.specs.Option.{option_copied};
+ghost use Rattle.std.specs.Prelude.{◌≡◌, ◌≢◌, [], false, IfOk, IsErrOf, map, string_bytes};
 ghost use Rattle.clap.specs.Words.{app_of, fault_of, rule_of};
-ghost use Rattle.soup_words.specs.Split.{basic_app, given, option_rule, start_app, tierra_app};
+ghost use Rattle.soup_words.specs.Split.{basic_app, option_rule, split_of, start_app, tierra_app};
 
 use crate::order::WordsFault;
 use clap::error::ErrorKind;
 use clap::{Arg, Command};
 use std::alloc::{AllocError, Global};
+use std::marker::Model;
 
 /// The text of each argument that the words have.
 #[derive(Drop)]
@@ -23,25 +23,28 @@ pub(crate) struct Split<'a> {
     pub(crate) epochs: Option<&'a str>,
 }
 
+impl<'a> Model for Split<'a> {
+    ghost use Rattle.std.specs.Option.{option_copied};
+    ghost use Rattle.soup_words.specs.Split.{SplitFields};
+
+    ghost Value = { SplitFields };
+
+    ghost view = { λ s. record {
+      action = option_copied s.action;
+      quanta = option_copied s.quanta;
+      workers = option_copied s.workers;
+      number = option_copied s.number;
+      every = option_copied s.every;
+      looks = option_copied s.looks;
+      isles = option_copied s.isles;
+      epochs = option_copied s.epochs;
+    } };
+}
+
 /// Splits the words: one action, and options with a value each, in any order.
 pub(crate) fn split_words<'a>(alloc: Global, words: &'a [String]) -> Result<Split<'a>, WordsFault>
     ensures taken { IfOk result (λ s. fault_of tierra_app (map string_bytes words.entry.now) ≡ []) }
-    ensures action { IfOk result (λ s. option_copied s.action
-        ≡ given (map string_bytes words.entry.now) (codes "action")) }
-    ensures quanta { IfOk result (λ s. option_copied s.quanta
-        ≡ given (map string_bytes words.entry.now) (codes "quanta")) }
-    ensures workers { IfOk result (λ s. option_copied s.workers
-        ≡ given (map string_bytes words.entry.now) (codes "workers")) }
-    ensures number { IfOk result (λ s. option_copied s.number
-        ≡ given (map string_bytes words.entry.now) (codes "number")) }
-    ensures every { IfOk result (λ s. option_copied s.every
-        ≡ given (map string_bytes words.entry.now) (codes "every")) }
-    ensures looks { IfOk result (λ s. option_copied s.looks
-        ≡ given (map string_bytes words.entry.now) (codes "looks")) }
-    ensures isles { IfOk result (λ s. option_copied s.isles
-        ≡ given (map string_bytes words.entry.now) (codes "isles")) }
-    ensures epochs { IfOk result (λ s. option_copied s.epochs
-        ≡ given (map string_bytes words.entry.now) (codes "epochs")) }
+    ensures split { IfOk result (λ s. s ≡ split_of (map string_bytes words.entry.now)) }
     ensures refused { IsErrOf result WordsFault.Refused → fault_of tierra_app (map string_bytes words.entry.now) ≢ [] }
 {
     let command = match command(alloc) {

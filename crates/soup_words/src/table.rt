@@ -1,16 +1,17 @@
 //! The table of the actions.
 
 ghost use Rattle.std.specs.Prelude.{◌≡◌, None, Some};
-ghost use Rattle.soup_words.specs.Table.{Row as RowOf, action_named, plain_row, row_of, timed_row, to};
+ghost use Rattle.soup_words.specs.Table.{action_named, plain_row, row_of, timed_row, to};
 
 use crate::order::Action;
+use std::marker::Model;
 use tierra_model::{MOST_EPOCHS, MOST_ISLES, MOST_LOOKS, MOST_QUANTA, MOST_WORKERS};
 
-/// The least and the greatest number of an option, where the action has it.
+/// The least and the greatest number of an option, if the action has it.
 pub(crate) type Range = Option<(u64, u64)>;
 
-/// What an action is called, and the options that it has.
-#[derive(Clone, Copy, Drop)]
+/// The name of an action, and the options that it has.
+#[derive(Drop)]
 pub(crate) struct Row {
     pub(crate) name: &'static str,
     pub(crate) quanta: Range,
@@ -20,6 +21,23 @@ pub(crate) struct Row {
     pub(crate) looks: Range,
     pub(crate) isles: Range,
     pub(crate) epochs: Range,
+}
+
+impl Model for Row {
+    ghost use Rattle.soup_words.specs.Table.{Row as RowOf};
+
+    ghost Value = { RowOf };
+
+    ghost view = { λ r. record {
+      name = r.name.now;
+      quanta = r.quanta;
+      workers = r.workers;
+      number = r.number;
+      every = r.every;
+      looks = r.looks;
+      isles = r.isles;
+      epochs = r.epochs;
+    } };
 }
 
 const ACTIONS: [Action; 12] = [
@@ -40,14 +58,7 @@ const ACTIONS: [Action; 12] = [
 /// The row of an action.
 #[tactic(auto, unfolding(crate::specs::Table::row_of))]
 pub(crate) fn row_of(action: Action) -> Row
-    ensures name { result.name.now ≡ RowOf.name (row_of action) }
-    ensures quanta { result.quanta ≡ RowOf.quanta (row_of action) }
-    ensures workers { result.workers ≡ RowOf.workers (row_of action) }
-    ensures number { result.number ≡ RowOf.number (row_of action) }
-    ensures every { result.every ≡ RowOf.every (row_of action) }
-    ensures looks { result.looks ≡ RowOf.looks (row_of action) }
-    ensures isles { result.isles ≡ RowOf.isles (row_of action) }
-    ensures epochs { result.epochs ≡ RowOf.epochs (row_of action) }
+    ensures { result ≡ row_of action }
 {
     match action {
         Action::Grow => Row {
@@ -100,14 +111,7 @@ fn to(most: u64) -> Range
 
 /// An action with no option.
 fn plain(name: &'static str) -> Row
-    ensures name { result.name.now ≡ name.now }
-    ensures quanta { result.quanta ≡ None }
-    ensures workers { result.workers ≡ None }
-    ensures number { result.number ≡ None }
-    ensures every { result.every ≡ None }
-    ensures looks { result.looks ≡ None }
-    ensures isles { result.isles ≡ None }
-    ensures epochs { result.epochs ≡ None }
+    ensures { result ≡ plain_row name.now }
 {
     Row {
         name,
@@ -123,14 +127,7 @@ fn plain(name: &'static str) -> Row
 
 /// An action that takes quanta.
 fn timed(name: &'static str) -> Row
-    ensures name { result.name.now ≡ name.now }
-    ensures quanta { result.quanta ≡ to MOST_QUANTA }
-    ensures workers { result.workers ≡ None }
-    ensures number { result.number ≡ None }
-    ensures every { result.every ≡ None }
-    ensures looks { result.looks ≡ None }
-    ensures isles { result.isles ≡ None }
-    ensures epochs { result.epochs ≡ None }
+    ensures { result ≡ timed_row name.now }
 {
     Row {
         quanta: to(MOST_QUANTA),
@@ -138,7 +135,7 @@ fn timed(name: &'static str) -> Row
     }
 }
 
-/// The action whose name the text is.
+/// The action with this name.
 #[tactic(auto, unfolding(crate::specs::Table::action_named))]
 pub(crate) fn action_named(text: &str) -> Option<Action>
     ensures { result ≡ action_named text.now }

@@ -2,7 +2,7 @@ use super::*;
 use std::alloc::{AllocError, Global};
 use std::test::Fail;
 
-/// The order of an action with nothing else said.
+/// The order of an action with no options given.
 const PLAIN: Order = Order {
     action: Action::Grow,
     quanta: 1000,
@@ -14,7 +14,7 @@ const PLAIN: Order = Order {
     epochs: 2,
 };
 
-// The words of a line, parted by spaces.
+// The words of a line, separated by spaces.
 fn words_of(alloc: Global, line: &str) -> Result<Vec<String>, AllocError> {
     let mut words = Vec::new(alloc);
     for word in line.split(' ') {

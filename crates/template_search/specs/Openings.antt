@@ -1,4 +1,4 @@
--- The first cells of a template's complement, beside a row of cells.
+-- The first cells of a template's complement, compared with a row of cells.
 use Rattle.std.specs.Prelude.{List, [], bit_xor, get_or, if◌then◌else◌, length, min, nat_lt, slice_index, ℕ, ◌+◌, ◌<◌, ◌≡◌, ◌∷◌}
 use Rattle.std.specs.Int.{from_le_bytes, w64}
 use Rattle.template_search.specs.declared.opening.Opening.{Opening}
@@ -7,11 +7,11 @@ use Rattle.template_search.specs.declared.opening.Opening.{Opening}
 abbrev pub packed : (ℕ → ℕ) → ℕ
 packed f = from_le_bytes w64 (f 0 ∷ f 1 ∷ f 2 ∷ f 3 ∷ f 4 ∷ f 5 ∷ f 6 ∷ f 7 ∷ [])
 
--- cell j of a template's complement, which is the other nop, and 0 where the template has none
+-- cell j of a template's complement, which is the other nop, or 0 if the template has no cell j
 abbrev pub complement_at : List ℕ → ℕ → ℕ
 complement_at vs j = if nat_lt j (length vs) then bit_xor (get_or vs j 0) 1 else 0
 
--- 255 where the template has a cell j
+-- 255 if the template has a cell j, and otherwise 0
 abbrev pub mask_at : List ℕ → ℕ → ℕ
 mask_at vs j = if nat_lt j (length vs) then 255 else 0
 

@@ -3,7 +3,7 @@ use Rattle.std.specs.Prelude.{ℕ}
 use Rattle.tierra_model.specs.declared.searching.Found.{Found}
 use Rattle.tierra_model.specs.declared.searching.Found.TheVariants.{At, NoMatch, Short}
 
--- a fact of that place, if there is one
+-- P holds of the place that was found, if one was
 abbrev pub IfAt : Found → (ℕ → Type 0) → Type 0
 IfAt (At place) P = P place
 IfAt Short P = Unit {0}

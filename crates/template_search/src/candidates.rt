@@ -25,7 +25,7 @@ pub struct Pair {
     pub behind: u32,
 }
 
-/// The first of the candidates at one distance that is a complement. Most are not, as the row tells at once.
+/// The first of the candidates at one distance that is a complement. Most are not, and the row shows that at once.
 #[inline(always)]
 pub fn match_in_row<V: View>(
     view: &mut V,
@@ -49,7 +49,7 @@ pub fn match_in_row<V: View>(
     match_near(view, nops, course, pair)
 }
 
-// Whether the row tells of all candidates at one distance that they are no complement.
+// Whether the row shows that no candidate at one distance is a complement.
 #[inline(always)]
 fn differ<V: View>(view: &V, nops: &[u8], course: Course, opening: Opening, pair: Pair) -> bool
     requires opening { IsOpening nops.now opening }
@@ -69,7 +69,7 @@ fn differ<V: View>(view: &V, nops: &[u8], course: Course, opening: Opening, pair
     }
 }
 
-/// The first of the two candidates at one distance that is a complement, of those on the sides of the search.
+/// Of the candidates at one distance on the sides of the search, the first that is a complement.
 pub fn match_near<V: View>(view: &mut V, nops: &[u8], course: Course, pair: Pair) -> Option<u32>
     requires ahead { pair.ahead < course.size }
     requires behind { pair.behind < course.size }

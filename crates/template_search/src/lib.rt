@@ -1,7 +1,7 @@
 //! The search for the complement of a template.
 //!
 //! The template of an instruction is the run of nops after it, of at most ten cells. Its complement is sought at rising
-//! distances on both sides or on one, and the nearest match is found, the one ahead first at equal distance.
+//! distances on both sides or on one. The nearest match is found, and at equal distance the one ahead.
 #![tactic(auto)]
 
 mod candidates;
@@ -12,7 +12,7 @@ mod template;
 #[cfg(test)]
 mod tests;
 
-ghost use Rattle.std.specs.Prelude.{◌≡◌, ◌<◌, ◌≤◌};
+ghost use Rattle.std.specs.Prelude.{◌<◌, ◌≤◌};
 ghost use Rattle.tierra_model.specs.declared.limits.TheConstants.{MOST_CELLS};
 ghost use Rattle.tierra_model.specs.Look.{Passes};
 ghost use Rattle.tierra_model.specs.Search.{search_for};
@@ -26,8 +26,8 @@ use crate::template::read_template;
 use tierra_model::View;
 pub use tierra_model::{Found, Way};
 
-/// The cell after the nearest complement of the template of the instruction at `ip`: `Short` where the template has
-/// less than `min` cells, and `NoMatch` where nothing matches at a distance of 1 to `limit`.
+/// The cell after the nearest complement of the template of the instruction at `ip`: `Short` if the template has
+/// fewer than `min` cells, and `NoMatch` if nothing matches at a distance of 1 to `limit`.
 ///
 /// The cells looked at are, in order, the template and the cell that ends it, and then of each candidate the cells up
 /// to the first mismatch.

@@ -12,7 +12,7 @@ use crate::opening::Opening;
 use crate::places::{next_place, place_at, previous_place};
 use tierra_model::{View, Way};
 
-/// The nearest candidate that is a complement, at a distance of 1 to `limit`. Each way has a loop of its own.
+/// The nearest candidate that is a complement, at a distance of 1 to `limit`. Each `way` has a loop of its own.
 pub fn nearest<V: View>(
     view: &mut V,
     nops: &[u8],
@@ -102,8 +102,8 @@ fn nearest_on<V: View>(
     nearest_round(view, nops, course, next, straight, limit)
 }
 
-// How many distances can be tried in a row of cells, eight cells at once and without going round: from these candidates
-// on, and none where the view has no row.
+// How many distances, from these candidates on, can be tried in the view's row, eight cells at once and without going
+// round the ring; 0 if the view has no row.
 fn straight_distances<V: View>(view: &V, first: Pair, limit: u32) -> u32
     requires cells { V.size view.now ≤ MOST_CELLS }
     requires ahead { first.ahead < V.size view.now }
@@ -122,7 +122,7 @@ fn straight_distances<V: View>(view: &V, first: Pair, limit: u32) -> u32
     }
 }
 
-// The nearest candidate at the first distances that is a complement. Most of the others are told by their first cells.
+// The nearest candidate at the first distances that is a complement. Most others are ruled out by their first cells.
 #[inline(always)]
 #[tactic(auto, using(crate::proofs::Distances::search_begins, crate::proofs::Distances::search_fails))]
 fn nearest_straight<V: View>(

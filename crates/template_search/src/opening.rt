@@ -5,7 +5,7 @@ ghost use Rattle.template_search.specs.Openings.{Differs, IsOpening, mask_at, pa
 
 use crate::template::Template;
 
-/// What makes each nop the other one, in each of eight bytes.
+/// The bit that turns each nop into the other, in each of eight bytes.
 const OTHER_NOPS: u64 = 0x0101_0101_0101_0101;
 
 /// The bits that no instruction's code has, in each of eight bytes.
@@ -31,7 +31,7 @@ impl Opening {
         }
     }
 
-    /// Whether the row tells that its cells from `place` on are others: all of them are known, and one of them differs.
+    /// Whether the row shows a mismatch from `place` on: the cells compared are all known, and one of them differs.
     #[inline]
     pub fn differs(self, row: &[u8], place: u32) -> bool
         requires { place + 8 ≤ length row.now }
@@ -41,7 +41,7 @@ impl Opening {
         seen != self.cells && seen & NO_CODE == 0
     }
 
-    /// The same of two places at once.
+    /// Whether the row shows a mismatch from each of two places on.
     #[inline]
     pub fn both_differ(self, row: &[u8], first: u32, second: u32) -> bool
         requires first { first + 8 ≤ length row.now }
@@ -58,7 +58,7 @@ impl Opening {
     }
 }
 
-// 255 in each of the bytes of so many cells, of eight bytes.
+// 255 in each of the first `len` of eight bytes.
 fn mask_of(len: u32) -> u64
     ensures { (vs : List ℕ) → length vs ≡ len → result ≡ packed (mask_at vs) }
 {

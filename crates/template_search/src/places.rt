@@ -2,7 +2,7 @@
 
 ghost use Rattle.std.specs.Prelude.{◌≡◌, ◌<◌, ◌+◌, ◌%◌};
 
-/// The place that a number names. Only numbers of twice the size and more are divided.
+/// The number modulo the size. Only numbers of at least twice the size are divided.
 #[tactic(auto, using(crate::proofs::Modulo::mod_once))]
 pub fn place_at(number: u32, size: u32) -> u32
     requires { 0 < size }

@@ -48,7 +48,7 @@ pub fn read_template<V: View>(view: &mut V, start: u32, size: u32) -> Template
     }
 }
 
-// The word with a nop as one of its bytes, which was 0. Bytes behind the eighth are none of its own.
+// The word with a nop as its byte number `at`, from 0, if it has that byte: it has only eight.
 fn with_byte(word: u64, at: u32, nop: u8) -> u64
     requires at { at < 10 }
     requires nop { nop < 2 }

@@ -1,4 +1,4 @@
-//! Searches in a small soup that counts the looks, and in one that lies in a row and does not.
+//! Searches in a small soup that counts the looks, and in one that has a row and counts none.
 
 ghost use Rattle.std.specs.Prelude.{◌≡◌, ◌≤◌, ◌<◌, IfOk, length};
 
@@ -82,7 +82,7 @@ impl View for Flat {
     }
 }
 
-/// The cells of such a soup, of whose looks no account is kept.
+/// The cells of such a soup, without a count of the looks.
 #[derive(Drop)]
 struct Plain {
     cells: Vec<u8>,
@@ -148,7 +148,7 @@ impl View for Plain {
     }
 }
 
-// so many cells of 08, which is no nop, but for those listed
+// a soup of cells that hold 08, which is no nop, except for the cells listed
 fn soup(alloc: Global, size: u32, nops: &[(u32, u8)]) -> Result<Flat, AllocError>
     requires { size ≤ 1048576 }
     ensures { IfOk result (λ v. length v.0 ≡ size) }
@@ -161,7 +161,7 @@ fn soup(alloc: Global, size: u32, nops: &[(u32, u8)]) -> Result<Flat, AllocError
     Ok(soup)
 }
 
-// what a search finds in such a soup, and after how many looks, where it finds the same in a row of the same cells
+// what a search finds in such a soup, and after how many looks; 0 looks if a search in a row finds something else
 fn find(
     alloc: Global,
     size: u32,
@@ -296,7 +296,7 @@ fn goes_on_to_its_limit(rt: HostRuntime) -> Result<(), Fail> {
     Ok(())
 }
 
-// the same in 200 cells, from cell 100 on, with runs of nops: where, how many, and which
+// what a search finds from cell 100 of 200 cells with runs of nops; a run is its place, its length and its nop
 fn find_in_runs(
     alloc: Global,
     runs: &[(u32, u32, u8)],

@@ -26,7 +26,7 @@ pub struct Given<'a> {
     pub disk: &'a [u64],
     /// The tells that fail.
     pub tells: &'a [u64],
-    /// The call from which on all fail.
+    /// The number of the desk call from which on all fail.
     pub stop: Option<u64>,
 }
 
@@ -67,7 +67,7 @@ fn desk_of(alloc: Global, given: &Given<'_>) -> Result<MemDesk, OutOfMemory>
     Ok(MemDesk::new(alloc, image, disk, tells, given.stop))
 }
 
-/// The words of a line, parted by spaces.
+/// The words of a line, separated by spaces.
 fn words_of(alloc: Global, line: &str) -> Result<Vec<String>, OutOfMemory> {
     let mut words = Vec::new(alloc);
     for word in line.split_ascii_whitespace() {
@@ -95,7 +95,7 @@ fn letters_of(alloc: Global, desk: &MemDesk) -> Result<String, OutOfMemory> {
     Ok(calls)
 }
 
-// The call is made, and its contract left behind.
+// Makes the call, and passes on nothing of its contract.
 fn answer_of<R: Threads + Wait + Sync, G: Gate + Sync>(
     rt: &R,
     alloc: Global,
@@ -124,7 +124,7 @@ fn what_ended(alloc: Global, status: Status, desk: MemDesk) -> Result<Ended, Out
     })
 }
 
-/// Makes a call of these words, parted by spaces, beside a gate.
+/// Makes a call of these words, separated by spaces, with this gate.
 pub fn call_beside<R: Threads + Wait + Sync, G: Gate + Sync>(
     rt: &R,
     alloc: Global,
@@ -162,7 +162,7 @@ pub fn call<R: Threads + Wait + Sync>(
 }
 
 impl Ended {
-    /// The file as a crash leaves it, one of four that may be; the first is as it was written.
+    /// One of four files that a crash may leave; the first lacks the writes since the last sync.
     pub fn file(&self, pick: u32) -> Result<Vec<u8>, OutOfMemory>
         requires { pick < 4 }
     {

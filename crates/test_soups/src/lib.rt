@@ -1,4 +1,4 @@
-//! What several crates of tests run.
+//! Soup files and texts that several test crates use.
 #![tactic(auto)]
 
 use soup_file::read_setup;
@@ -26,13 +26,13 @@ at = 90
 code = "nop_1 nop_1 nop_1 nop_1 nop_1"
 "#;
 
-/// The bytes of the ancestor, as `asm` tells them.
+/// The code of the ancestor in hexadecimal digits, as `asm` prints it.
 pub const ANCESTOR_HEX: &str = "\
     01 01 01 01 04 02 03 03 18 1c 00 00 00 00 07 19 1d 00 00 00 01 08 06 01 01 00 01 1e 16 00 00 01 \
     01 1f 14 00 00 01 00 05 01 01 00 00 0c 0d 0e 01 00 01 00 1a 0a 05 14 00 01 00 00 08 09 14 00 01 \
     00 01 05 01 00 01 01 12 11 10 17 01 01 01 00 05\n";
 
-/// What a run of the ancestor tells after 34 quanta.
+/// What a run of the ancestor for 34 quanta prints.
 pub const GROWN: &str = "saved 0080aaa 34\nquanta 34\nbirths 1\ndeaths 0\nliving 2\nfilled 240\n\
     front 2 ip 80 ax 0 bx 0 cx 0 dx 0 flag 0 errors 0\ngenotypes 1\nkept 1\n0080aaa 2 2\n";
 

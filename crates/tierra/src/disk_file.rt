@@ -1,4 +1,4 @@
-//! A file of the working folder, opened when it is first used. What it holds is not told.
+//! A file of the working folder, opened when it is first used. Contracts say nothing of what it holds.
 
 ghost use Rattle.std.specs.Prelude.{◌≤◌, ◌^◌, ◌+◌, IfOk, OnOk, length};
 
@@ -10,8 +10,8 @@ use std::rt::Files;
 /// The greatest length of a file.
 const MAX_LEN: u64 = 1 << 62;
 
-/// Before the first sync or write the file is only read, and one that is missing is empty. The first sync or write makes it
-/// where it is missing, and locks it, so that a second run in the folder is kept out.
+/// Before the first sync or write the file is only read, and a missing one counts as empty. The first sync or write
+/// creates it where it is missing, and locks it, so that a second run in the folder is kept out.
 #[derive(Drop)]
 pub struct DiskFile<'r, R: Files<File = File>> {
     rt: &'r R,
@@ -22,8 +22,8 @@ pub struct DiskFile<'r, R: Files<File = File>> {
     told_len: Option<u64>,
 }
 
-// Files in the place of standard ones that the caller closed. While they are open the desk's file cannot take such a number,
-// at which what is printed would go into it.
+// Files in place of standard streams that the caller closed. While they are open, the desk's file cannot get the number
+// of such a stream, where what is printed would go into it.
 fn stand_ins<R: Files<File = File>>(rt: &R) -> [Option<File>; 3] {
     [
         File::open(rt, "/dev/null").ok(),
@@ -49,8 +49,8 @@ fn found<'f, R: Files<File = File>>(
     Ok(file.as_ref())
 }
 
-// The file to write to, made where it is missing. Where another run has locked it, it is not given. While it is empty it may
-// be new, so its folder is synced before the first write.
+// Opens and locks the file to write to, and creates it where it is missing. An error where another run has locked it.
+// An empty file may be new, so its folder is synced before the first write.
 fn open_locked<R: Files<File = File>>(rt: &R, name: &str) -> io::Result<File> {
     let mut how = OpenOptions::new();
     how.read(true).write(true).create(true);
@@ -133,8 +133,9 @@ impl<'r, R: Files<File = File>> DiskFile<'r, R> {
         Ok(len)
     }
 
-    /// Fills the buffer with the bytes at a place. An error where the file ends before. One too where the file is not locked
-    /// and no longer has the length that was told: a run appends to it, and what was read may lack a part.
+    /// Fills the buffer with the bytes at a place. An error where the file ends earlier. Also an error where the file
+    /// is not locked and no longer has the length that was told: then another run appends to it, and what was read may
+    /// lack a part.
     pub fn read_at(&mut self, at: u64, buf: &mut [u8]) -> io::Result<()> {
         let Some(file) = found(self.rt, self.name, &mut self.file)? else {
             return Err(io::Error::from(io::ErrorKind::UnexpectedEof));

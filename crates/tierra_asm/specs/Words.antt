@@ -14,15 +14,15 @@ is_line_feed b = b == 10
 abbrev pub begins_comment : ℕ → Bool
 begins_comment b = b == 59
 
--- space, tab and carriage return, which part the words of a line
+-- space, tab and carriage return, which separate the words of a line
 abbrev pub is_separator : ℕ → Bool
 is_separator b = b == 32 || b == 9 || b == 13
 
--- the words of a line: what stands between separators before the comment
+-- the words of a line: the parts between separators before the comment
 abbrev pub words_of_line : List ℕ → List (List ℕ)
 words_of_line line = filter (λ part. nat_lt 0 (length part)) (slice_split is_separator (before_first begins_comment line))
 
--- each with the number of the line, which stops at 4,294,967,295
+-- the words of a numbered line, each with the number of the line, or 4,294,967,295 if that is less
 abbrev pub placed_words : ℕ × List ℕ → List PlacedWord
 placed_words (number, line) = map (λ word. record { line = min number 4294967295; bytes = word }) (words_of_line line)
 
@@ -38,7 +38,7 @@ words_of text = words_from 1 text
 abbrev pub ends_word : ℕ → Bool
 ends_word b = is_separator b || is_line_feed b || begins_comment b
 
--- nothing, or a byte of a word
+-- the text is empty or begins with a byte of a word
 abbrev pub IsAtWord : List ℕ → Type 0
 IsAtWord [] = Unit {0}
 IsAtWord (b ∷ text) = ends_word b ≡ false

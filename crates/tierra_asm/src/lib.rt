@@ -18,11 +18,11 @@ pub use word_reader::{Word, Words};
 pub enum AsmFault {
     /// A word on this line names no instruction.
     UnknownName { line: u32 },
-    /// The instruction after the 20,000th stands on this line.
+    /// The 20,001st word is on this line.
     TooLong { line: u32 },
     /// The listing has no word.
     Empty,
-    /// Want of memory.
+    /// No memory was left.
     OutOfMemory,
 }
 
@@ -36,8 +36,8 @@ impl<T: Drop> From<AllocFailed<T>> for AsmFault {
 
 /// The code of a listing: the instruction of each word, in order.
 ///
-/// A listing has 1 to 20,000 words, which stand as `Words` tells, each the lower-case name of an instruction. The
-/// first word that is one too many or no name gives the fault.
+/// A listing has 1 to 20,000 words, separated as `Words` says, each the lower-case name of an instruction. The
+/// first word that is no name, or is one too many, gives the fault.
 pub fn assemble(alloc: Global, text: &str) -> Result<Code, AsmFault>
     ensures code { IfOk result (λ code. listing_of text.now ≡ Ok code) }
     ensures fault { IfErr result (λ fault. (fault ≡ AsmFault.OutOfMemory) ⊎ (listing_of text.now ≡ Err fault)) }

@@ -13,7 +13,7 @@ ghost use Rattle.tierra_asm.specs.Words.{
 
 use std::marker::Model;
 
-/// A word of a text, and the number of its line, counted from 1; a line above 4,294,967,295 has that number.
+/// A word of a text, and the number of its line, counted from 1; any line after 4,294,967,295 gets that number.
 #[derive(Clone, Copy, Debug)]
 pub struct Word<'a> {
     pub line: u32,
@@ -21,7 +21,7 @@ pub struct Word<'a> {
 }
 
 /// The words of a text that are left to read. A `;` begins a comment up to the next line feed or the end; outside of
-/// comments spaces, tabs, carriage returns and line feeds part the words.
+/// comments, spaces, tabs, carriage returns and line feeds separate the words.
 #[derive(Drop)]
 pub struct Words<'a> {
     line: u32,
@@ -108,7 +108,7 @@ fn is_separator(byte: u8) -> bool
     matches!(byte, b' ' | b'\t' | b'\r')
 }
 
-// The length of what stands before the first line feed.
+// How many bytes come before the first line feed.
 fn comment_len(bytes: &[u8]) -> usize
     ensures { result ≡ position_or_len is_line_feed bytes.now }
 {
@@ -118,7 +118,7 @@ fn comment_len(bytes: &[u8]) -> usize
         .unwrap_or(bytes.len())
 }
 
-// The length of the word at the front, or 0 where there is none.
+// The length of the word at the front, or 0 if there is none.
 fn word_len(bytes: &[u8]) -> usize
     ensures { result ≡ position_or_len ends_word bytes.now }
 {

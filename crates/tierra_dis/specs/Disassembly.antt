@@ -17,11 +17,11 @@ line_of place None = Err (NotAnOp place)
 abbrev pub line_at : ℕ × ℕ → Result (List ℕ) DisFault
 line_at (place, byte) = line_of place (slice_get ops byte)
 
--- the lines in a row
+-- the lines one after another, or the fault
 abbrev pub joined : Result (List (List ℕ)) DisFault → Result (List ℕ) DisFault
 joined (Ok lines) = Ok (concat lines)
 joined (Err fault) = Err fault
 
--- the listing of a code, which has a line for each instruction, or the fault of its first byte that is none
+-- the listing of a code, which has a line for each instruction, or the fault of its first byte that is no instruction
 abbrev pub listing_text : List ℕ → Result (List ℕ) DisFault
 listing_text code = joined (all_or_first_error (map line_at (enumerate_from 1 code)))

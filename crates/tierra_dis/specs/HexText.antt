@@ -9,7 +9,7 @@ use Rattle.tierra_dis.specs.declared.hex_text.HexFault.{HexFault}
 use Rattle.tierra_dis.specs.declared.hex_text.HexFault.TheVariants.{NotHex, TooLong, Empty}
 use Rattle.tierra_model.specs.declared.limits.TheConstants.{MOST_SIZE}
 
--- the byte of two hexadecimal digits of either case
+-- the byte that two hexadecimal digits of either case write
 abbrev pub byte_of : List ℕ → Option ℕ
 byte_of (high ∷ low ∷ []) =
     if nat_lt (digit_value high) 16 && nat_lt (digit_value low) 16 then Some (16 * digit_value high + digit_value low)

@@ -14,7 +14,7 @@ use tierra_model::Text;
 pub enum DisFault {
     /// The byte at this place, counted from 1, is the first that is no instruction.
     NotAnOp { place: u32 },
-    /// Want of memory.
+    /// No memory was left.
     OutOfMemory,
 }
 

@@ -22,7 +22,7 @@ pub enum HexFault {
     /// There is no word.
     #[error("no instructions")]
     Empty,
-    /// Want of memory.
+    /// No memory was left.
     #[error("out of memory")]
     OutOfMemory,
 }
@@ -35,7 +35,7 @@ impl<T: Drop> From<AllocFailed<T>> for HexFault {
     }
 }
 
-/// The bytes of a hex text: its words stand as in a listing, and each is two hexadecimal digits of either case.
+/// The bytes of a hex text: its words are separated as in a listing, and each is two hexadecimal digits of either case.
 pub fn read_hex(alloc: Global, text: &str) -> Result<Code, HexFault>
     ensures code { IfOk result (λ code. hex_of text.now ≡ Ok code) }
     ensures fault { IfErr result (λ fault. (fault ≡ HexFault.OutOfMemory) ⊎ (hex_of text.now ≡ Err fault)) }
@@ -83,7 +83,7 @@ fn push_digits(items: &mut Vec<u8>, byte: u8) -> Result<(), OutOfMemory>
     Ok(())
 }
 
-// The byte of two hexadecimal digits.
+// The byte that two hexadecimal digits write.
 fn byte_of(word: &[u8]) -> Option<u8>
     ensures { result ≡ byte_of word.now }
 {

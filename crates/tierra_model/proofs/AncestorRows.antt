@@ -143,7 +143,7 @@ pub after_34-saved : (serial (alone 400 (lit≤ tt, lit≤ tt)) 34).saved
 unfolding quanta
 after_34-saved = refl
 
--- after 33 quanta of its own the daughter is where its mother was, 80 cells on; its block is behind its mother's second
+-- after 33 quanta of its own the daughter is where its mother was, 80 cells on; its block is after its mother's second
 abbrev pub second_nearly_copied : Creature
 second_nearly_copied =
     record {

@@ -9,6 +9,6 @@ abbrev pub is_in_daughter : Option Block → ℕ → Bool
 is_in_daughter None p = false
 is_in_daughter (Some b) p = is_in b p
 
--- for what is past the end of a list of blocks
+-- the empty block, which a place past the end of a list of blocks gives
 abbrev pub no_block : Block
 no_block = record { at = 0; size = 0 }

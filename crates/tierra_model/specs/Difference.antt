@@ -47,7 +47,7 @@ list_difference same k (x ∷ xs) (y ∷ ys) =
 
 -- ---- the first difference
 
--- the one, or where there is none the other
+-- the first, or the second if the first is None
 abbrev pub or_else : {X : Type 0} → Option X → Option X → Option X
 or_else None o = o
 or_else (Some x) o = Some x
@@ -56,7 +56,7 @@ abbrev pub of_front : Creature → Creature → Option Stale
 of_front seen now =
     if seen.id == now.id then (if same_creature seen now then None else Some stale.Body) else Some (stale.Front seen.id now.id)
 
--- the first of the cells, in the order of reading
+-- the first cell that differs, in the order of reading
 abbrev pub of_cells : List (ℕ × ℕ) → List ℕ → Option Stale
 of_cells [] soup = None
 of_cells (c ∷ cs) soup =
@@ -89,7 +89,7 @@ LeastPlace =
     ((seen now : List Block) (d : ListDifference Block) → list_difference same_block 0 seen now ≡ Some d → IsLeast seen now d)
     × ((seen now : List Standing) (d : ListDifference Standing) → list_difference same_standing 0 seen now ≡ Some d → IsLeast seen now d)
 
--- There is no difference exactly where the reads and the record agree with the world.
+-- There is no first difference if and only if the reads and the record agree with the world.
 abbrev pub DifferenceTells : Type 0
 DifferenceTells = (reads : Reads) (c : Creature) (w : World)
     → (first_difference reads c w ≡ None → Agrees reads c w) × (Agrees reads c w → first_difference reads c w ≡ None)

@@ -7,12 +7,12 @@ use Rattle.std.specs.Prelude.{Bool, List, None, Option, Some, false, if◌then�
 unfoldable pub word : List ℕ → ℕ → ℕ → ℕ
 word seed q k = word_at 4 (key_of seed) q k
 
--- A rate is due on a word that it divides, and never where it is 0.
+-- A rate is due on a word that it divides, and never if the rate is 0.
 abbrev pub is_due : ℕ → (ℕ → ℕ) → ℕ → Bool
 is_due zero draw k = false
 is_due (suc r) draw k = draw k % suc r == 0
 
--- the flaw of instruction i: where it is due, 1 or -1 as the next word is even or odd, and else 0
+-- the flaw of instruction i: if one is due, 1 if the next word is even and -1 if it is odd; otherwise 0
 abbrev pub flaw : ℕ → (ℕ → ℕ) → ℕ → ℤ
 flaw rate draw i =
     elim (is_due rate draw (3 + 4 * i)) [

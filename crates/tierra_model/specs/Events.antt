@@ -26,8 +26,8 @@ record_after (event.Divide ran moved) c = record c { daughter = None; moved = 0;
 abbrev pub has_id : Creature → ℕ → Bool
 has_id c id = id == c.id
 
--- A creature with the next birth number comes into the world, at the bottom and at the back. Its genotype is
--- counted among those known before.
+-- A creature with the next birth number comes into the world, at the back of the slicer queue and at the bottom of the
+-- reaper queue. Its genotype is counted in the list known.
 abbrev pub with_creature : List Genotype → Block → List ℕ → Option ℕ → ℕ → World → World
 with_creature known own code parent q w =
     let (genotypes, k) = with_individual known code parent q in
@@ -50,7 +50,8 @@ with_death id w =
       deaths = w.deaths + 1;
     }
 
--- The daughter block becomes a creature, whose mother has the genotype. A divide is possible only with a daughter block.
+-- The daughter block becomes a creature, whose mother has genotype parent. A divide is possible only with a daughter
+-- block.
 abbrev pub with_birth : List Genotype → Option Block → ℕ → World → World
 with_birth known None parent w = w
 with_birth known (Some b) parent w =
@@ -66,9 +67,9 @@ with_error_move w = record w { reaper = error_move (has_id (front w)) (errors_in
 abbrev pub with_good_move : World → World
 with_good_move w = record w { reaper = good_move (has_id (front w)) (errors_in w) w.reaper }
 
--- What an event does. (Where it cannot happen, what it does has no meaning.) A birth, in order: the mother's genotype
--- gets the effort, by which of her daughters this is; the daughter block becomes a creature; then her record loses the
--- daughter block, and ran begins anew.
+-- What an event does. (If it cannot happen, the result has no meaning.) A birth, in order: the mother's genotype gets
+-- the effort, if this is her first or her second daughter; the daughter block becomes a creature; then her record loses
+-- the daughter block, and ran begins anew.
 unfoldable pub apply_event : World → Event → World
 apply_event w (event.Write at value) = record w { soup = slice_set w.soup at value }
 apply_event w event.Err = with_error_move (put (record_after event.Err (front w)) w)

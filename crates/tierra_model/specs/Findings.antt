@@ -1,4 +1,4 @@
--- Findings: what a quantum that ran alone found, and when it is that of a world.
+-- Findings: what a quantum read and did in a scene, and when the quantum of a world does the same.
 use Rattle.std.specs.Prelude.{List, None, Option, Some, [], replicate, slice_index, slice_set, unwrap_or, ℕ, ◌+◌, ◌-◌, ◌∷◌, ◌<◌, ◌≡◌, ◌≤◌}
 use Rattle.tierra_model.specs.declared.limits.TheConstants.{MOST_QUANTA}
 use Rattle.tierra_model.specs.declared.creatures.Creature.{Creature}
@@ -40,7 +40,7 @@ abbrev pub seen_soup : List (ℕ × ℕ) → List ℕ → List ℕ
 seen_soup [] soup = soup
 seen_soup (c ∷ cs) soup = seen_soup cs (slice_set soup c.0 c.1)
 
--- the scene that a finding tells: cells not read hold 0, and lists not noted are empty
+-- the scene that a finding describes: cells not read hold 0, and lists not noted are empty
 abbrev pub scene_of_finding : Finding → Scene
 scene_of_finding f =
     record {
@@ -52,7 +52,7 @@ scene_of_finding f =
       yard = unwrap_or f.reads.yard [];
     }
 
--- what the scene touches, its events and its record after are those of the finding, and its quantum is from 1 to 4,000,000
+-- running the finding's scene gives its reads, its events and its record after; and its quantum is 1 to MOST_QUANTA
 pub record Stands (f : Finding) : Type 0 where
   pub reads : reads_of (run_in_scene (scene_of_finding f)) ≡ f.reads
   pub events : (run_in_scene (scene_of_finding f)).events ≡ f.events
@@ -60,7 +60,7 @@ pub record Stands (f : Finding) : Type 0 where
   pub at_least_one : 1 ≤ f.quantum
   pub at_most_limit : f.quantum ≤ MOST_QUANTA
 
--- What the quantum of a sound world finds in its scene stands: a scene that holds only what was read runs alike.
+-- The finding of a sound world's scene stands: a scene that holds only what was read runs the same.
 abbrev pub FindingStands : Type 0
 FindingStands = (w : World) → IsSound w → w.quanta < MOST_QUANTA → Stands (finding_of (scene_of w))
 
@@ -72,7 +72,7 @@ abbrev pub SameIfSome : {A : Type 0} → Option A → A → Type 0
 SameIfSome None a = Unit {0}
 SameIfSome (Some b) a = b ≡ a
 
--- what was read is so in the world, and the record is that of the creature at its front
+-- the world still has what was read, and the creature at its front has the record c
 pub record Agrees (reads : Reads) (c : Creature) (w : World) : Type 0 where
   pub front : front w ≡ c
   pub cells : CellsAgree reads.cells w

@@ -6,7 +6,7 @@ use Rattle.tierra_model.specs.Blocks.{is_in}
 use Rattle.tierra_model.specs.World.{World}
 use Rattle.tierra_model.specs.Room.{is_owned}
 
--- the run of the size cells before p, if there are any, and the others
+-- the list rest, after the run of the size cells before p unless size is 0
 abbrev pub with_run : ℕ → ℕ → List Block → List Block
 with_run p zero rest = rest
 with_run p (suc size) rest = record { at = p - suc size; size = suc size } ∷ rest

@@ -14,13 +14,13 @@ number_before size gs zero = 0
 number_before size [] (suc k) = 0
 number_before size (g ∷ gs) (suc k) = (if length g.code == size then 1 else 0) + number_before size gs k
 
--- genotype k's code's length, and the number of genotypes of that length before it
+-- the length of genotype k's code, and the number of genotypes of that length before it
 abbrev pub name_of : List Genotype → ℕ → Name
 name_of genotypes k =
     let size = length (genotype_at genotypes k).code in
     record { size = size; rank = number_before size genotypes k }
 
--- what is kept of a saved genotype, with the efforts that it had then
+-- what is kept of a saved genotype, with the efforts that it had when it was saved
 abbrev pub saved_of : List Genotype → Saving → Saved
 saved_of genotypes s =
     let g = genotype_at genotypes s.genotype in
@@ -36,12 +36,12 @@ saved_of genotypes s =
 abbrev pub saved_in : ℕ → World → List Saved
 saved_in q w = map (saved_of w.genotypes) (filter (λ s. s.quantum == q) w.saved)
 
--- one group, or none where nothing was saved
+-- one group, or none if nothing was saved
 abbrev pub group_if_any : ℕ → List Saved → List GroupFields
 group_if_any q [] = []
 group_if_any q (x ∷ xs) = record { quantum = q; form = form.Two; saved = x ∷ xs } ∷ []
 
--- the groups of the quanta below m, each of the world after its quantum
+-- the groups of the quanta below m, each taken from the world after its quantum
 unfoldable pub bank : SetupFields → ℕ → List GroupFields
 bank setup zero = []
 bank setup (suc q) = bank setup q ++ group_if_any q (saved_in q (serial setup q))
@@ -54,7 +54,7 @@ groups_below w (suc q) = groups_below w q ++ group_if_any q (saved_in q w)
 abbrev pub groups_of : World → List GroupFields
 groups_of w = groups_below w (w.quanta + 1)
 
--- those from place k on
+-- the groups of a world from place k on
 abbrev pub groups_from : World → ℕ → List GroupFields
 groups_from w k = drop k (groups_of w)
 
@@ -69,7 +69,7 @@ in_form_one g = record { quantum = g.quantum; form = form.One; saved = map witho
 abbrev pub GroupFits : GroupFields → GroupFields → Type 0
 GroupFits disk run = (disk ≡ run) ⊎ (disk ≡ in_form_one run)
 
--- they have the same length, and fit place by place
+-- the lists have the same length, and their groups fit place by place
 abbrev pub GroupsFit : List GroupFields → List GroupFields → Type 0
 GroupsFit [] [] = Unit {0}
 GroupsFit [] (r ∷ runs) = ⊥

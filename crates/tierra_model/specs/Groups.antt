@@ -8,7 +8,7 @@ use Rattle.tierra_model.specs.declared.genebank.Saved.{Saved}
 use Rattle.tierra_model.specs.Counting.{sum_of}
 use Rattle.tierra_model.specs.Ranges.{AreEfforts, IsCode}
 
--- what a Group says
+-- the fields of a Group
 pub record GroupFields : Type 0 where
   pub quantum : ℕ
   pub form : Form
@@ -17,7 +17,7 @@ pub record GroupFields : Type 0 where
 abbrev pub IsName : Name → Type 0
 IsName n = (1 ≤ n.size) × (n.size ≤ MOST_SIZE) × (n.rank < COUNT_END)
 
--- form One has no efforts, and in form Two each effort has run an instruction
+-- form One has no efforts, and in form Two each effort counts at least one instruction
 abbrev pub EffortsIn : Form → Saved → Type 0
 EffortsIn form.One s = (s.first ≡ None) × (s.second ≡ None)
 EffortsIn form.Two s = AreEfforts s.first s.second
@@ -30,12 +30,13 @@ pub record IsSaved (f : Form) (s : Saved) : Type 0 where
   pub parent : IfSome s.parent IsName
   pub efforts : EffortsIn f s
 
--- the bytes of two efforts in the form
+-- how many bytes a genotype's two efforts take in the form
 abbrev pub efforts_size : Form → ℕ
 efforts_size form.One = 0
 efforts_size form.Two = 32
 
--- the bytes of a payload: quantum and number, and for each genotype size, rank, parent's size and rank, efforts and code
+-- how many bytes a payload has: for the quantum and the number of genotypes, and for each genotype its size, its rank,
+-- its parent's size and rank, its efforts and its code
 abbrev pub payload_size : GroupFields → ℕ
 payload_size g = 8 + 4 + sum_of (λ s. 4 + 8 + 4 + 8 + efforts_size g.form + length s.code) g.saved
 

@@ -10,7 +10,7 @@ abbrev pub genotype_number : List ℕ → List Genotype → Option ℕ
 genotype_number code [] = None
 genotype_number code (g ∷ gs) = if bytes_eq g.code code then Some 0 else option_map suc (genotype_number code gs)
 
--- one more of genotype k
+-- the genotypes with one more individual of genotype k
 abbrev pub with_one_more : ℕ → List Genotype → List Genotype
 with_one_more k [] = []
 with_one_more zero (g ∷ gs) = record g { total = g.total + 1 } ∷ gs
@@ -24,7 +24,7 @@ with_individual genotypes code parent q =
       | Some k ↦ (with_one_more k genotypes, k)
     ]
 
--- A genotype is saved where its total reaches save_at.
+-- A genotype is saved when its total reaches save_at.
 abbrev pub savings_after : ℕ → List Genotype → ℕ → ℕ → List Saving → List Saving
 savings_after save_at genotypes k q saved =
     let g = genotype_at genotypes k in
@@ -32,12 +32,12 @@ savings_after save_at genotypes k q saved =
     saved ++ (record { genotype = k; quantum = q; first_effort = g.first_effort; second_effort = g.second_effort }) ∷ []
     else saved
 
--- the effort that is there, and where there is none this one
+-- the effort that is there already, or e if there is none
 abbrev pub first_of_both : Option Effort → Effort → Option Effort
 first_of_both None e = Some e
 first_of_both (Some d) e = Some d
 
--- a genotype after a mother of it had her daughter number bred, at this effort
+-- a genotype after a mother that has it bore her daughter number bred, with effort e
 abbrev pub with_effort : ℕ → Effort → Genotype → Genotype
 with_effort bred e g =
     record g {
@@ -45,7 +45,7 @@ with_effort bred e g =
       second_effort = (if bred == 2 then first_of_both g.second_effort e else g.second_effort);
     }
 
--- the same of genotype k
+-- the genotypes with that effort noted for genotype k
 abbrev pub with_effort_of : ℕ → ℕ → Effort → List Genotype → List Genotype
 with_effort_of k bred e [] = []
 with_effort_of zero bred e (g ∷ gs) = with_effort bred e g ∷ gs

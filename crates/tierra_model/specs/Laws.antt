@@ -17,13 +17,14 @@ use Rattle.tierra_model.specs.Reads.{ahead}
 use Rattle.tierra_model.specs.Groups.{IsGroup}
 use Rattle.tierra_model.specs.Genebank.{bank, groups_of}
 
--- Instruction i of the creature at the front: the record and the act that follow from the soup as it is, put in and done.
+-- Instruction i of the creature at the front: the record and the act that follow from the soup as it is. The record is
+-- put in, and the act done.
 abbrev pub plain_instruction : (ℕ → ℕ) → ℕ → World → World
 plain_instruction draw i w =
     let (c, act) = answer (step w.settings draw i (front w)) (slice_index w.soup) in
     perform world_machine w.settings act (put c w)
 
--- That is what an instruction of a machine does in a world.
+-- An instruction run on a world as a machine does just that.
 abbrev pub InstructionIsPlain : Type 0
 InstructionIsPlain = (w : World) (draw : ℕ → ℕ) (i : ℕ) → instruction world_machine w.settings draw i w ≡ plain_instruction draw i w
 

@@ -26,8 +26,8 @@ newborn id own genotype =
       bred = 0;
     }
 
--- Number 0 is nobody's: what is asked of a creature that does not live is asked of this one. In a sound world
--- both lists hold the living alone, so it is never met there.
+-- No creature has number 0. Looking up a creature that does not live gives this one; in a sound world both queues
+-- hold only the living, so that never happens.
 abbrev pub nobody : Creature
 nobody = newborn 0 no_block 0
 
@@ -35,7 +35,7 @@ nobody = newborn 0 no_block 0
 abbrev pub one_of : List Creature → ℕ → Creature
 one_of living id = unwrap_or (find (λ c. c.id == id) living) nobody
 
--- the living with c in the place of the one of its birth number
+-- the living, with c in place of the creature that has its birth number
 abbrev pub with_record : Creature → List Creature → List Creature
 with_record c living = map (λ x. if x.id == c.id then c else x) living
 

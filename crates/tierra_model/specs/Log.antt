@@ -21,7 +21,7 @@ pub record Log : Type 0 where
   pub yard_noted : Bool
   pub events : List Event
 
--- A cell is noted once, with what it held at the start, and not where this quantum wrote it before.
+-- notes a cell with what it held at the start, unless it is noted already or this quantum wrote it before
 abbrev pub with_logged_cell : Log → ℕ → Log
 with_logged_cell x p =
     record x {
@@ -59,8 +59,8 @@ touched w =
 abbrev pub events_of : World → List Event
 events_of w = (log_of w).events
 
--- Noting changes nothing of the quantum; and what it reads and does, and the record that it leaves, are those of its
--- scene.
+-- Noting does not change the quantum. What the quantum reads and does, and the record it leaves, are the same when it
+-- runs in its scene.
 pub record IsSceneAlone (w : World) : Type 0 where
   pub quantum : turn_end (log_of w).now ≡ quantum w
   pub reads : touched w ≡ reads_of (run_in_scene (scene_of w))

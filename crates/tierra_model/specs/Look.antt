@@ -25,8 +25,8 @@ abbrev pub looks : {A : Type 0} → Look A → (ℕ → ℕ) → List ℕ
 looks (Answer a) cells = []
 looks (LookAt p next) cells = p ∷ looks (next (cells p)) cells
 
--- The looks one after another from v on, where cells v p is what cell p holds and looked v p what a look at p leaves:
--- what is left of v, and the answer.
+-- The looks made one after another from state v: the state at the end, and the answer. cells v p is what cell p
+-- holds, and looked v p is the state after a look at p.
 abbrev pub pass : {S A : Type 0} → (S → ℕ → ℕ) → (S → ℕ → S) → Look A → S → S × A
 pass cells looked (Answer a) v = (v, a)
 pass cells looked (LookAt p next) v = pass cells looked (next (cells v p)) (looked v p)

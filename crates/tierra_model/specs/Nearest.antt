@@ -14,7 +14,7 @@ use Rattle.tierra_model.specs.Search.{is_complement, search_for, template}
 abbrev pub AreNops : ℕ → (ℕ → ℕ) → ℕ → ℕ → Type 0
 AreNops n cells p m = (j : ℕ) → j < m → cells ((p + j) % n) < 2
 
--- The list has what is held by the most cells from place p on that all hold nops, of at most k cells.
+-- The list has the numbers in the longest run of nops, of at most k cells, that begins at place p.
 pub record IsLongest (n : ℕ) (cells : ℕ → ℕ) (k p : ℕ) (vs : List ℕ) : Type 0 where
   pub few : length vs ≤ k
   pub nops : AreNops n cells p (length vs)
@@ -66,7 +66,7 @@ module _ (n : ℕ) (cells : ℕ → ℕ) (ip : ℕ) (way : Way) (limit min : ℕ
       × ((side : Side) × (d : ℕ) × Matches side d × (p ≡ (candidate n ip (length nops) side d + length nops) % n)
       × ((s : Side) (c : ℕ) → IsBefore s c side d → Matches s c → ⊥))
 
--- A search finds that, by looking at one cell after another.
+-- A search, which looks at one cell after another, finds what IsFound says.
 abbrev pub NearestIsFound : Type 0
 NearestIsFound = (n : ℕ) (cells : ℕ → ℕ) (ip : ℕ) (way : Way) (limit min : ℕ)
     → IsFound n cells ip way limit min (answer (search_for n ip way limit min) cells)

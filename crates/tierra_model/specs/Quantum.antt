@@ -32,7 +32,7 @@ pub record Machine (S : Type 0) : Type 0 where
   -- what an event leaves
   pub apply : S → Event → S
 
--- the disturbance is due in the quanta that every divides, and in none where it is 0
+-- whether quantum q is disturbed: dist_every, the first argument, divides q and is not 0
 abbrev pub is_disturbed : ℕ → ℕ → Bool
 is_disturbed zero q = false
 is_disturbed (suc n) q = q % suc n == 0
@@ -64,8 +64,8 @@ module _ {S : Type 0} (P : Machine S) (s : Settings) where
   abbrev pub reap : S → S
   reap x = let y = P.ask_reaper x in reap_at (victim y) y
 
-  -- While there is no room, the first other creature of the reaper queue dies; where there is none, mal errs. left is
-  -- how many others the list has: each death takes one away, so at 0 nobody is left.
+  -- While there is no room, the first other creature of the reaper queue dies; if there is none, mal errs. left is
+  -- how many others the list has: each death takes one away, so at 0 no other is left.
   abbrev pub make_room : ℕ → ℕ → S → S
   make_room size zero x =
       elim (room_for s (P.owned x) size) [ Some at ↦ take_block size at x | None ↦ P.apply (P.ask_reaper x) event.Err ]
@@ -106,17 +106,18 @@ module _ {S : Type 0} (P : Machine S) (s : Settings) where
   flip None x = x
   flip (Some c) x = P.apply (P.look x c.0) (event.Write c.0 (flip_bit (P.cell x c.0) (Some c.1)))
 
-  -- k times the first creature of the reaper queue other than the one that runs dies, while there is one
+  -- up to k times, the first creature of the reaper queue other than the one that runs dies
   abbrev pub reap_times : ℕ → S → S
   reap_times zero x = x
   reap_times (suc k) x = elim (victim x) [ None ↦ x | Some place ↦ reap_times k (P.apply x (event.Reap place)) ]
 
-  -- the disturbance, where it is due: of the living, who are all in the reaper queue, so many in a hundred die
+  -- the disturbance, if it is due: dist_percent percent of the living, rounded down, die, but never the creature that
+  -- runs (the reaper queue has all the living)
   abbrev pub disturb : Bool → S → S
   disturb false x = x
   disturb true x = let y = P.ask_reaper x in reap_times (length (P.reaper y) * s.dist_percent / 100) y
 
-  -- the background flip, the disturbance, and so many instructions of quantum q
+  -- the background flip, the disturbance, and k instructions of quantum q
   unfoldable pub run : ℕ → ℕ → S → S
   run q k x =
       instructions (word s.seed q) k 0
@@ -129,7 +130,7 @@ slice_of size s =
 
 -- ---- in a world
 
--- A world sees its own soup, blocks and lists, and nothing is noted of what it looks at.
+-- A world uses its own soup, blocks and lists, and no look is noted.
 abbrev pub world_machine : Machine World
 world_machine =
     record {

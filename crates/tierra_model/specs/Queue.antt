@@ -1,7 +1,7 @@
 -- Moves in the reaper queue.
 use Rattle.std.specs.Prelude.{Bool, List, None, Option, Some, [], if◌then◌else◌, nat_lt, option_map, suc, zero, ℕ, ◌++◌, ◌==◌, ◌∷◌}
 
--- The mover changes places with the one before it, unless there is none or that one has more errors.
+-- The mover changes places with the one before it, unless the mover is first or the one before it has more errors.
 abbrev pub error_move : {X : Type 0} → (X → Bool) → (X → ℕ) → List X → List X
 error_move mover errors [] = []
 error_move mover errors (x ∷ []) = x ∷ []

@@ -7,7 +7,7 @@ use Rattle.tierra_model.specs.declared.creatures.Standing.{Standing}
 use Rattle.tierra_model.specs.declared.events.Event.TheVariants as event
 use Rattle.tierra_model.specs.World.{World}
 
--- the cells in the order of reading, each with what it held; the free list and the yard, where they were read
+-- the cells in the order of reading, each with what it held; the free list and the yard, if they were read
 pub record Reads : Type 0 where
   pub cells : List (ℕ × ℕ)
   pub free : Option (List Block)
@@ -29,7 +29,7 @@ writes p (event.Divide ran moved) = false
 abbrev pub some_if : {A : Type 0} → Bool → A → Option A
 some_if b a = elim b [ true ↦ Some a | false ↦ None ]
 
--- the list turned round so that the number is first, where it has it; seen are the numbers that were before it
+-- the list rotated so that the number comes first, if the list has it; seen holds the numbers passed so far
 abbrev pub turned_to : ℕ → List ℕ → List ℕ → List ℕ
 turned_to id seen [] = seen
 turned_to id seen (x ∷ xs) = if x == id then (x ∷ xs) ++ seen else turned_to id (seen ++ x ∷ []) xs

@@ -27,7 +27,7 @@ first_fit_from owned size p zero = None
 first_fit_from owned size p (suc k) =
     elim (are_free owned p size) [ true ↦ Some p | false ↦ first_fit_from owned size (p + 1) k ]
 
--- The least address of size free cells in a soup of n. No place is tried where the block is longer than the soup.
+-- The least address of size free cells in a soup of n. No place is tried if the block is longer than the soup.
 abbrev pub first_fit : ℕ → (ℕ → Bool) → ℕ → Option ℕ
 first_fit n owned size = first_fit_from owned size 0 (n + 1 - size)
 
@@ -35,12 +35,12 @@ first_fit n owned size = first_fit_from owned size 0 (n + 1 - size)
 abbrev pub HasRoom : ℕ → (ℕ → Bool) → ℕ → ℕ → Type 0
 HasRoom n owned size a = (a + size ≤ n) × ((p : ℕ) → a ≤ p → p < a + size → owned p ≡ false)
 
--- the least such address, or none where there is none
+-- the least such address, or None if there is none
 abbrev pub IsFit : ℕ → (ℕ → Bool) → ℕ → Option ℕ → Type 0
 IsFit n owned size None = (a : ℕ) → HasRoom n owned size a → ⊥
 IsFit n owned size (Some a) = HasRoom n owned size a × ((b : ℕ) → b < a → HasRoom n owned size b → ⊥)
 
--- The first fit is that.
+-- The first fit is the least address with room.
 abbrev pub FirstFitIsLeast : Type 0
 FirstFitIsLeast = (n : ℕ) (owned : ℕ → Bool) (size : ℕ) → IsFit n owned size (first_fit n owned size)
 

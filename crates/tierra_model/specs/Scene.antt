@@ -29,7 +29,7 @@ scene_of w =
 abbrev pub set_front : Creature → Scene → Scene
 set_front c s = record s { front = c; yard = with_standing c s.yard }
 
--- the cells that the test picks are free too
+-- the scene where the cells that the test picks are free as well
 abbrev pub with_freed : (ℕ → Bool) → Scene → Scene
 with_freed test s = record s { free = runs_of s.settings.soup_size (λ p. is_in_some s.free p || test p) }
 

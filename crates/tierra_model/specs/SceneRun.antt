@@ -9,7 +9,7 @@ use Rattle.tierra_model.specs.Scene.{Scene, apply_in_scene, set_front}
 use Rattle.tierra_model.specs.Reads.{Reads, is_noted, some_if, writes}
 
 -- A quantum under way: the scene at its start and now, which cells were noted with what they held, whether
--- the free list and the yard were, the events so far, and how many were born.
+-- the free list and the yard were noted, the events so far, and how many were born.
 pub record SceneRun : Type 0 where
   pub start : Scene
   pub now : Scene
@@ -19,7 +19,8 @@ pub record SceneRun : Type 0 where
   pub events : List Event
   pub newborns : ℕ
 
--- A cell is noted once, and not where this quantum wrote it before. So what it is seen to hold is what it held at the start.
+-- whether a look at the cell is not noted: it is noted already, or this quantum wrote it. A look at any other cell
+-- sees what it held at the start.
 abbrev pub is_known : SceneRun → ℕ → Bool
 is_known x p = is_noted x.cells p || list_any (writes p) x.events
 

@@ -9,13 +9,13 @@ use Rattle.tierra_model.specs.Look.{Answer, Look, cell, ◌>>=◌}
 
 -- ---- what is found
 
--- The longest run of nops of at most k cells from place p on, as the numbers in them.
+-- The longest run of nops of at most k cells from place p on, as the numbers in its cells.
 unfoldable pub template : ℕ → (ℕ → ℕ) → ℕ → ℕ → List ℕ
 template n cells zero p = []
 template n cells (suc k) p =
     if nat_lt (cells (p % n)) 2 then cells (p % n) ∷ template n cells k (p + 1) else []
 
--- The cells from p on hold 1 where the template has 0, and 0 where it has 1: with either, they come to 1.
+-- The cells from p on hold 1 where the template has 0, and 0 where it has 1: in both cases they add up to 1.
 unfoldable pub is_complement : ℕ → (ℕ → ℕ) → List ℕ → ℕ → Bool
 is_complement n cells [] p = true
 is_complement n cells (v ∷ vs) p =

@@ -7,11 +7,11 @@ use Rattle.tierra_model.specs.World.{World}
 use Rattle.tierra_model.specs.Events.{with_creature}
 use Rattle.tierra_model.specs.Setups.{SetupFields, block_of}
 
--- ys from place at on, in the place of what xs has there
+-- xs with ys in place of what it has from place at on
 abbrev pub overwrite : List ℕ → ℕ → List ℕ → List ℕ
 overwrite xs at ys = take at xs ++ ys ++ drop (at + length ys) xs
 
--- before anything is put in
+-- the world before any creature is put in
 abbrev pub empty_world : Settings → World
 empty_world s =
     record {
@@ -28,7 +28,7 @@ empty_world s =
       quanta = 0;
     }
 
--- each creature of the list in its order: its code in the soup, then the creature
+-- puts in the creatures in order: for each, first its code into the soup, then the creature
 abbrev pub with_inocula : List Inoculum → World → World
 with_inocula [] w = w
 with_inocula (c ∷ cs) w =
@@ -38,7 +38,7 @@ with_inocula (c ∷ cs) w =
 unfoldable pub start : SetupFields → World
 start setup = with_inocula setup.creatures (empty_world setup.settings)
 
--- the world after so many quanta
+-- the world after n quanta
 unfoldable pub serial : SetupFields → ℕ → World
 serial setup zero = start setup
 serial setup (suc n) = quantum (serial setup n)

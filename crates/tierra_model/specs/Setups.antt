@@ -9,7 +9,7 @@ use Rattle.tierra_model.specs.Counting.{one_if, sum_of}
 use Rattle.tierra_model.specs.Ranges.{IsCode}
 use Rattle.tierra_model.specs.Blocks.{is_in}
 
--- what a Setup says
+-- the fields of a Setup
 pub record SetupFields : Type 0 where
   pub settings : Settings
   pub creatures : List Inoculum
@@ -24,7 +24,7 @@ pub record IsSetup (setup : SetupFields) : Type 0 where
   pub placed : All (λ c. c.at + length c.code ≤ setup.settings.soup_size) setup.creatures
   pub apart : (p : ℕ) → sum_of (λ c. one_if (is_in (block_of c) p)) setup.creatures ≤ 1
 
--- where nothing else is said
+-- the settings that hold unless others are given
 abbrev pub default_settings : Settings
 default_settings =
     record {

@@ -35,31 +35,31 @@ ParentsBelow k (g ∷ gs) = IfSome g.parent (λ p. p < k) × ParentsBelow (k + 1
 abbrev pub numbers_of : List Saving → List ℕ
 numbers_of saved = map (λ s. s.genotype) saved
 
--- their quanta never fall, and the first is not below q
+-- the quanta of the savings never fall, and the first is not below q
 abbrev pub Rising : ℕ → List Saving → Type 0
 Rising q [] = Unit {0}
 Rising q (s ∷ rest) = (q ≤ s.quantum) × Rising s.quantum rest
 
--- what a quantum saved, each genotype counted as the length of its code and 100 more
+-- the size of what quantum q saved: for each genotype, the length of its code plus 100
 abbrev pub saved_size : List Genotype → List Saving → ℕ → ℕ
 saved_size genotypes saved q =
     sum_of (λ s. if s.quantum == q then length (genotype_at genotypes s.genotype).code + 100 else 0) saved
 
--- what the counts of a world may come to
+-- the most that a count of a world may reach
 abbrev pub count_limit : ℕ → ℕ
 count_limit quanta = 2 ^ 40 + MOST_SLICE * quanta
 
--- each is above the one before it, and the first is not below k
+-- each number is above the one before it, and the first is not below k
 abbrev pub Ordered : ℕ → List ℕ → Type 0
 Ordered k [] = Unit {0}
 Ordered k (x ∷ xs) = (k ≤ x) × Ordered (x + 1) xs
 
--- (The types of Rust give the ranges of registers and flag, and the length of the stack.)
+-- (Rust's types give the ranges of the registers and the flag, and the length of the stack.)
 pub record IsSound (w : World) : Type 0 where
   -- the soup
   pub cells : length w.soup ≡ w.settings.soup_size
   pub codes : All (λ v. v < 32) w.soup
-  -- the lists: there is a living creature, and each list has every one of them once
+  -- the lists: there is a living creature, and each list has every living creature once
   pub some : 0 < length w.living
   pub ordered : Ordered 1 (ids_of w.living)
   pub once : (id : ℕ) → times_in (ids_of w.living) id ≤ 1
@@ -85,7 +85,8 @@ pub record IsSound (w : World) : Type 0 where
   pub parents : ParentsBelow 0 w.genotypes
   pub totals : All (λ g. g.total ≤ count_limit w.quanta) w.genotypes
   pub efforts : All (λ g. AreEfforts g.first_effort g.second_effort) w.genotypes
-  -- the saved genotypes: each once, those whose total is at least save_at (past the end of the genotypes the total is 0, and save_at is at least 1)
+  -- the saved genotypes: exactly those whose total is at least save_at, each once (past the end of the genotypes the
+  -- total is 0, and save_at is at least 1)
   pub saved : (k : ℕ) → times_in (numbers_of w.saved) k ≡ one_if (nat_le w.settings.save_at (genotype_at w.genotypes k).total)
   pub rising : Rising 0 w.saved
   pub past : All (λ s. s.quantum ≤ w.quanta) w.saved

@@ -17,7 +17,7 @@ use Rattle.tierra_model.specs.Search.{search_for}
 use Rattle.tierra_model.specs.Draw.{copy_bit, flaw}
 use Rattle.tierra_model.specs.Blocks.{is_in, is_in_daughter}
 
--- the size that mal is to give, or None where the request errs
+-- the size that mal is to give, or None if the request is an error
 abbrev pub mal_request : Settings → ℕ → ℤ → Option ℕ
 mal_request s size (negsuc k) = None
 mal_request s size (pos k) =
@@ -37,11 +37,11 @@ push c v =
 abbrev pub top_of : Creature → ℤ
 top_of c = slice_index_or c.stack c.sp (pos 0)
 
--- a pop has read at the pointer, and moves it down
+-- after a pop has read at the pointer, the pointer moves down
 abbrev pub pop : Creature → Creature
 pop c = record c { sp = (c.sp + 9) % 10 }
 
--- The record before what the act does to it (record_after, in Events), and the act.
+-- The record before the act changes it (record_after, in Events), and the act.
 abbrev pub Outcome : Type 0
 Outcome = Creature × Act
 
@@ -60,7 +60,7 @@ abbrev pub mal_act : Option ℕ → Act
 mal_act None = act.Erred
 mal_act (Some size) = act.Mal size
 
--- a bit of a cell's value flipped
+-- a cell's value with the bit flipped, if one is given
 abbrev pub flip_bit : ℕ → Option ℕ → ℕ
 flip_bit v None = v
 flip_bit v (Some bit) = bit_xor v (2 ^ bit)
@@ -78,8 +78,8 @@ copy c from to bit =
       Answer (record c { moved = moved }, act.Wrote to (flip_bit v bit)))
     else error_outcome c
 
--- c is the record with ip at the next cell, ip is the instruction's own cell, and f is the flaw: so or1 flips
--- with 1 + f, which is 0, 1 or 2, and shl multiplies by 2 to that power.
+-- c is the record with ip at the next cell, ip is the instruction's own cell, and f is the flaw. So or1 flips the
+-- bits of 1 + f, which is 0, 1 or 2, and shl multiplies by 2 to the power of 1 + f.
 abbrev pub execute : Settings → ℤ → Option ℕ → ℕ → Creature → Op → Look Outcome
 execute s f bit ip c Nop0 = plain_outcome c
 execute s f bit ip c Nop1 = plain_outcome c
@@ -123,7 +123,7 @@ execute s f bit ip c Divide =
     Answer (c, (if may_divide s c.daughter c.moved then act.Divide else act.Erred))
 
 -- Instruction i of a quantum whose draws are draw. The cells that it looks at, in order, are looks (step ..) of the
--- soup. The flag is that of an instruction that did not err: what an error does to the record is done with the act.
+-- soup. The flag is 0, as without an error: an error changes the record when the act is done.
 unfoldable pub step : Settings → (ℕ → ℕ) → ℕ → Creature → Look Outcome
 step s draw i c = do
   code ← cell c.ip

@@ -10,6 +10,6 @@ ops =
     ∷ PopAx ∷ PopBx ∷ PopCx ∷ PopDx ∷ Jmp ∷ JmpB ∷ Call ∷ Ret
     ∷ MovCd ∷ MovAb ∷ MovIab ∷ Adr ∷ AdrB ∷ AdrF ∷ Mal ∷ Divide ∷ []
 
--- the instruction of a code, which a cell keeps below 32
+-- the instruction of a code; each code in a cell is below 32
 unfoldable pub op_of : ℕ → Op
 op_of code = slice_index_or ops code Nop0

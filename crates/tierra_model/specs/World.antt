@@ -5,8 +5,8 @@ use Rattle.tierra_model.specs.declared.creatures.Effort.{Effort}
 use Rattle.tierra_model.specs.declared.parameters.Settings.{Settings}
 use Rattle.tierra_model.specs.Living.{one_of, with_record}
 
--- a genotype: its code, its parent, which is the genotype of its first individual's mother and none for an inoculated
--- one, the quantum of its first birth, how many ever had it, and the first and the second effort
+-- a genotype: its code; its parent, which is the genotype of its first individual's mother, or None if that individual
+-- was inoculated; the quantum of its first birth; how many ever had it; and the first and the second effort
 pub record Genotype : Type 0 where
   pub code : List ℕ
   pub parent : Option ℕ
@@ -15,7 +15,7 @@ pub record Genotype : Type 0 where
   pub first_effort : Option Effort
   pub second_effort : Option Effort
 
--- for what is past the end of the list
+-- what a place past the end of the genotypes gives
 abbrev pub no_genotype : Genotype
 no_genotype = record { code = []; parent = None; first_quantum = 0; total = 0; first_effort = None; second_effort = None }
 

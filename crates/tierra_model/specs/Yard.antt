@@ -12,14 +12,14 @@ standing c = record { id = c.id; errors = c.errors; own = c.own; daughter = c.da
 abbrev pub yard : World → List Standing
 yard w = map (λ id. standing (one_of w.living id)) w.reaper
 
--- the standing of the record in the place of the one of its birth number
+-- the standings, with that of c in place of the one that has its birth number
 abbrev pub with_standing : Creature → List Standing → List Standing
 with_standing c standings = map (λ x. if x.id == c.id then standing c else x) standings
 
 abbrev pub is_standing_of : Creature → Standing → Bool
 is_standing_of c x = x.id == c.id
 
--- for what is past the end of a yard
+-- what a place past the end of a yard gives
 abbrev pub no_standing : Standing
 no_standing = record { id = 0; errors = 0; own = no_block; daughter = None }
 

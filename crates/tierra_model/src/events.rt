@@ -25,6 +25,6 @@ pub enum Event {
     Mal { at: u32, size: u32 },
     /// The creature at a place of the reaper queue dies; place 0 is the top.
     Reap { place: u32 },
-    /// The daughter is born, and cost her mother so much.
+    /// The daughter is born; `ran` and `moved` are what she cost her mother.
     Divide { ran: u64, moved: u64 },
 }

@@ -18,9 +18,9 @@ pub enum Form {
     Two,
 }
 
-/// A genotype as it was saved. The parent is the genotype of its first individual's mother, none where that
-/// one was inoculated. `first` is what the earliest first daughter of a mother of this genotype cost her, `second`
-/// what the earliest second one did, as they stood when it was saved.
+/// A genotype as it was saved. The parent is the genotype of its first individual's mother, or none if that individual
+/// was inoculated. `first` is what the earliest first daughter of a mother of this genotype cost her, and `second` what
+/// the earliest second daughter did, as known when the genotype was saved.
 #[derive(Debug, Drop)]
 pub struct Saved {
     pub name: Name,
@@ -45,7 +45,7 @@ impl Model for SavedList {
     ghost view = { λ s. s.items.items };
 }
 
-/// All genotypes that one quantum saved. The type keeps that each is in the ranges of the genebank's file.
+/// All genotypes that one quantum saved. The type ensures that each is in the ranges of the genebank's file.
 #[derive(Debug, Drop)]
 pub struct Group {
     pub quantum: u64,

@@ -1,9 +1,8 @@
-//! The keys of the settings, in the order of a soup file: what may stand at each, and what stands there where nothing else
-//! is said.
+//! The keys of the settings, in the order of a soup file: the range of each, and its default.
 
 use crate::limits::{MOST_CELLS, MOST_QUANTA, MOST_SIZE, MOST_SLICE};
 
-/// A number's least, its greatest and its default.
+/// The least, the greatest and the default value of a number.
 #[derive(Clone, Copy, Drop, PartialEq, Eq, Debug)]
 pub struct Number {
     pub least: u32,
@@ -56,7 +55,7 @@ pub const MIN_CELL: Number = Number {
     default: 12,
 };
 
-/// Nor may it be below `min_cell`.
+/// It may not be below `min_cell` either.
 pub const MAX_CELL: Number = Number {
     least: 1,
     greatest: MOST_SIZE,

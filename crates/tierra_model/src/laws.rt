@@ -27,7 +27,8 @@ pub fn serial_is_sound()
     ensures { SerialIsSound }
 {}
 
-/// Does nothing: its contract is the law that a sound world turned ahead, to a living creature and a quantum to come, is sound.
+/// Does nothing: its contract is the law that a sound world turned ahead, to a living creature and a quantum to come,
+/// is sound.
 pub fn ahead_is_sound()
     ensures { AheadIsSound }
 {}
@@ -37,7 +38,7 @@ pub fn disturbance_counts_living()
     ensures { DisturbanceCountsLiving }
 {}
 
-/// Does nothing: its contract is the law that there is no first difference exactly where reads agree.
+/// Does nothing: its contract is the law that there is no first difference if and only if the reads agree.
 pub fn difference_tells()
     ensures { DifferenceTells }
 {}
@@ -67,7 +68,7 @@ pub fn nearest_is_found()
     ensures { NearestIsFound }
 {}
 
-/// Does nothing: its contract is the law that what a quantum reads and does are those of its scene.
+/// Does nothing: its contract is the law that a quantum reads and does the same in its scene.
 pub fn scene_alone()
     ensures { SceneAlone }
 {}
@@ -77,7 +78,8 @@ pub fn bank_in_range()
     ensures { BankInRange }
 {}
 
-/// Does nothing: its contract is the law that stand-ins are nobody's, and that who is not in a yard does not move in it.
+/// Does nothing: its contract is the law that no creature has the number of a stand-in, and that a queue move of a
+/// creature that is not in a yard changes nothing there.
 pub fn yards_are_safe()
     ensures { YardsAreSafe }
 {}

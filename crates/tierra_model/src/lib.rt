@@ -41,5 +41,5 @@ pub use searching::{Found, Way};
 pub use setups::{Inoculum, SeedList, Setup, grow_setup};
 pub use views::{Now, View};
 
-/// Want of memory.
+/// No memory was left.
 pub type OutOfMemory = std::alloc::AllocError;

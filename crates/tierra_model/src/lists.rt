@@ -1,6 +1,6 @@
 //! Lists that definitions compute with: contracts see each as a list.
 
-ghost use Rattle.std.specs.Prelude.{◌≡◌, ◌==◌, List, ℕ};
+ghost use Rattle.std.specs.Prelude.{◌==◌, List, ℕ};
 ghost use Rattle.std.proofs.Common.{rules};
 ghost use Rattle.std.specs.Hash as fed;
 ghost use Rattle.std.specs.Cmp.Rules.{comparing, hashing};
@@ -11,7 +11,7 @@ use crate::events::Event;
 use std::hash::{Hash, Hasher};
 use std::marker::Model;
 
-/// Bytes, which of a creature are the codes of its cells.
+/// Bytes; a creature's are the codes of its cells.
 #[derive(Debug, Drop)]
 pub struct Code {
     pub items: Vec<u8>,

@@ -1,14 +1,14 @@
 //! What can be set for a world.
 
-ghost use Rattle.std.specs.Prelude.{ℕ, ◌≤◌};
+ghost use Rattle.std.specs.Prelude.{◌≤◌};
 ghost use Rattle.tierra_model.specs.declared.keys.TheConstants.{SOUP_SIZE, SLICE_SIZE, SLICE_NUM, SLICE_DEN, SEARCH_LIMIT, MIN_TEMPLATE, MIN_CELL, MAX_CELL, MAL_MULT, FILL_PERCENT, MOVE_PERCENT, SAVE_AT, DIST_EVERY, DIST_PERCENT};
 
-/// The settings of a world, each in its range, which the type keeps.
+/// The settings of a world. The type ensures that each is in its range.
 #[derive(Clone, Copy, Drop, PartialEq, Eq, Debug)]
 pub struct Settings {
     /// The number of cells.
     pub soup_size: u32,
-    /// The instructions of a quantum, where they do not go by size.
+    /// How many instructions a quantum has, unless that goes by size.
     pub slice_size: u32,
     /// Whether a creature's slice goes by its size, `size * slice_num / slice_den`.
     pub slice_by_size: bool,
@@ -23,21 +23,21 @@ pub struct Settings {
     pub max_cell: u32,
     /// How many times its own size a creature may ask for.
     pub mal_mult: u32,
-    /// The part of the soup up to which `mal` gives, in percent.
+    /// How full `mal` may make the soup, in percent.
     pub fill_percent: u32,
     /// The part of a daughter block that must have been copied before it divides, in percent.
     pub move_percent: u32,
     /// How many individuals a genotype needs before it is saved.
     pub save_at: u32,
-    /// One in so many quanta, on the average, flips a bit of the soup; none where it is 0.
+    /// On the average one quantum in `back_rate` flips a bit of the soup; none if it is 0.
     pub back_rate: u32,
-    /// One in so many copies, on the average, flips a bit; none where it is 0.
+    /// On the average one copy in `copy_rate` flips a bit; none if it is 0.
     pub copy_rate: u32,
-    /// One in so many instructions, on the average, is flawed; none where it is 0.
+    /// On the average one instruction in `flaw_rate` is flawed; none if it is 0.
     pub flaw_rate: u32,
     /// The seed of all draws.
     pub seed: [u8; 32],
-    /// Each quantum that it divides is disturbed; none where it is 0.
+    /// Each quantum whose number it divides is disturbed; none if it is 0.
     pub dist_every: u32,
     /// The part of the living that a disturbance kills, in percent, rounded down; never the creature that runs.
     pub dist_percent: u32,

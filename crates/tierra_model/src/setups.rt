@@ -37,7 +37,7 @@ impl Model for SeedList {
     ghost view = { λ s. s.items.items };
 }
 
-/// Settings, and at least one creature. The type keeps that the codes lie in the soup and share no cell.
+/// Settings, and at least one creature. The type ensures that the codes lie in the soup and share no cell.
 #[derive(Debug, Drop)]
 pub struct Setup {
     pub settings: Settings,
@@ -54,7 +54,7 @@ impl Model for Setup {
     ghost invariant = { λ s. IsSetup (record { settings = s.settings; creatures = s.creatures }) };
 }
 
-/// The settings that hold where nothing else is said.
+/// The settings that hold unless others are given.
 pub fn defaults() -> Settings
     ensures { result ≡ default_settings }
 {

@@ -1,4 +1,4 @@
-//! A soup as one who looks at it and writes in it sees it, and a world as it is now.
+//! A soup as seen by code that reads and writes its cells, and a world as it is now.
 
 ghost use Rattle.std.specs.Prelude.{◌≡◌, ◌==◌, ℕ, ◌<◌, Bool, IfSome, true, length, if◌then◌else◌, slice_index, slice_index_or};
 
@@ -39,8 +39,8 @@ pub trait View {
         requires a_code { value < 32 }
         ensures { self.new ≡ written self.old at value };
 
-    /// What is known of all cells, in a row, if it lies in one: a byte below 32 is what the cell holds, and a look at
-    /// that cell leaves no trace. Any other byte tells nothing.
+    /// One byte for each cell, if the view has them in one slice: a byte below 32 is what the cell holds, and a look at
+    /// that cell changes nothing. Any other byte tells nothing.
     fn row(&self) -> Option<&[u8]>
         ensures len { IfSome result (λ row. length row.now ≡ size self.now) }
         ensures held { IfSome result (λ row. (p : ℕ) → p < size self.now → slice_index row.now p < 32

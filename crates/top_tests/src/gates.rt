@@ -11,14 +11,14 @@ use test_calls::{PLAIN, call_beside};
 use test_soups::TWO;
 use tierra_model::OutOfMemory;
 
-/// Counts the calls. It may hold the first `before` of the run until an `after` of another worker came, for at most
-/// 50,000,000 turns.
+/// Counts the calls. Where `is_to_hold`, it holds the worker of the run's first `before` until another worker calls
+/// `after`, for at most 50,000,000 turns.
 #[derive(Drop)]
 struct Watch {
     is_to_hold: bool,
     befores: AtomicU64,
     afters: AtomicU64,
-    // The worker that comes first, and 0 before.
+    // The worker that came first, or 0 as long as none came.
     first: AtomicU64,
     others_offered: AtomicBool,
     is_limit_met: AtomicBool,
@@ -70,7 +70,7 @@ impl Gate for Watch {
     }
 }
 
-/// The status of a run of the two creatures with that gate.
+/// The status of a run of the two creatures with this gate.
 fn run_watched<R: Threads + Wait + Sync>(
     rt: &R,
     alloc: Global,

@@ -20,7 +20,7 @@ const FIRST_REPORT: &str =
 const USAGE: &str =
     "tierra: usage: tierra grow|run|asm|dis|bank|drill|dump|hold|curve|probe|watch|isles [--quanta N] [--workers W] [--number K] [--every X] [--looks X] [--isles X] [--epochs X]\n";
 
-/// What grows from the first listing.
+/// The words of the first listing's run.
 const FIRST_RUN: &str = "grow --quanta 1 --workers 1";
 
 #[test]
@@ -48,7 +48,7 @@ fn a_read_that_fails_tells_nothing(rt: HostRuntime) -> Result<(), Fail> {
     Ok(())
 }
 
-/// Calls where the tell of a number fails: the answer, and whether anything was told.
+/// Makes a call in which the tell of this number fails: the answer, and whether anything was told.
 fn with_tell<R: Threads + Wait + Sync>(
     rt: &R,
     alloc: Global,
@@ -69,7 +69,7 @@ fn a_tell_that_fails_is_the_answer(rt: HostRuntime) -> Result<(), Fail> {
     for words in [FIRST_RUN, "asm"] {
         let failed = with_tell(&rt, rt.alloc(), words, 1)?;
         assert_eq!(rt; failed, (Status::TellFault, false), "{words}");
-        // What is told is one tell.
+        // The whole text is one tell, so there is no second one to fail.
         let done = with_tell(&rt, rt.alloc(), words, 2)?;
         assert_eq!(rt; done, (Status::Done, true), "{words}");
     }
@@ -100,7 +100,7 @@ fn texts_are_told_whole(rt: HostRuntime) -> Result<(), Fail> {
     Ok(())
 }
 
-/// The names of the ancestor, one in a line.
+/// The names of the ancestor's instructions, one on each line.
 fn ancestor_lines(alloc: Global) -> Result<String, OutOfMemory> {
     let mut lines = String::new(alloc);
     for name in ANCESTOR.split_ascii_whitespace() {
@@ -131,7 +131,7 @@ fn the_ancestor_comes_back_from_its_digits(rt: HostRuntime) -> Result<(), Fail> 
     Ok(())
 }
 
-/// So many times the same text.
+/// The text, this many times.
 fn repeated(alloc: Global, text: &str, times: u16) -> Result<String, OutOfMemory> {
     let mut all = String::new(alloc);
     for _ in 0..times {

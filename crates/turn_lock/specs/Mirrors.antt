@@ -1,4 +1,4 @@
--- What the fields of a seat and of a turn say of its view.
+-- How the fields of a seat or a turn agree with the seat's view.
 use Rattle.std.specs.Prelude.{◌≡◌, ℕ, suc, ◌<◌, List, [], ◌∷◌, length, Option, Some, None, slice_index}
 use Rattle.atomic_table.specs.Seated.{TableId}
 use Rattle.turn_lock.specs.declared.view.Summary.{Summary}
@@ -28,8 +28,8 @@ pub record MirrorsSeat (views : List View) (caller turns seen : ℕ) (own : List
   pub places : length own ≡ 64
   pub speaks : (n : ℕ) × (own_at (view_of views) (view_of views).place ≡ Some n)
 
--- The fields of a turn mirror the view of its seat, which holds the empty slot and has read all counts. The value that was taken has
--- grown by these.
+-- The fields of a turn mirror the view of its seat, which holds the empty slot and has read all counts. The value that
+-- was taken has grown by these counts.
 pub record MirrorsTurn {T : Type 0} (me : TableSeat T) (caller turns committed : ℕ) (own : List (Option ℕ)) (taken : Summary) : Type 0 where
   pub holding : me.0.stage ≡ Holding (ticket_of me.0.stage) (counts_read me.0.stage)
   pub slot : me.1 ≡ (0, None) ∷ []

@@ -10,9 +10,9 @@ use Rattle.turn_lock.specs.declared.view.Stage.TheVariants.{Spent, Idle, Waiting
 use Rattle.turn_lock.specs.Summary.{HasGrown}
 use Rattle.turn_lock.specs.View.{most_tickets, own_at, left_of, ticket_count, HasTicket, IsActive, IsHolding}
 
--- What a seat's stage says of the words: a ticket that it holds is one of those from serving to ticket - 1, and the seat is its
--- holder; it is called, has read counts or holds the slot only where its ticket is the one served, and these counts are the
--- present ones.
+-- What a seat's stage says of the words: a ticket that it holds is one of those from serving to ticket - 1, and the
+-- seat is the holder of that ticket; the seat is called, has read counts or holds the slot only if its ticket is the
+-- one served, and these counts are the present ones.
 module _ (ticket serving : ℕ) (counts : List ℕ) (holder : ℕ → ℕ) (seat : ℕ) where
   abbrev pub StageFits : Stage → Type 0
   StageFits Spent = Unit {0}
@@ -21,7 +21,7 @@ module _ (ticket serving : ℕ) (counts : List ℕ) (holder : ℕ → ℕ) (seat
   StageFits (Called t read) = (t ≡ serving) × (t < ticket) × (holder t ≡ seat) × (read ≡ take (length read) counts)
   StageFits (Holding t read) = (t ≡ serving) × (t < ticket) × (holder t ≡ seat) × (read ≡ counts)
 
--- what the rule says of a seat that no other took in
+-- what the rule says of a seat that was not joined into another
 pub record SeatFits (start : Summary) (ticket serving last : ℕ) (counts : List ℕ) (holder owner : ℕ → ℕ) (seat : ℕ) (v : View) : Type 0 where
   pub opening : v.opening ≡ start
   pub stage : StageFits ticket serving counts holder seat v.stage
@@ -30,7 +30,7 @@ pub record SeatFits (start : Summary) (ticket serving last : ℕ) (counts : List
   pub own : (i n : ℕ) → own_at v i ≡ Some n → (i < last) × (owner i ≡ seat) × (slice_index counts i ≡ n)
   pub speaks : (n : ℕ) × (own_at v v.place ≡ Some n)
   pub seen : v.seen ≤ start.committed + sum counts
-  -- its callers may draw so many tickets, less those that are drawn
+  -- its callers may draw this many tickets, less those that are drawn
   pub left : v.left + v.turns + ticket_count v.stage ≡ most_tickets * count_by is_some v.own
   -- it holds the last number given out if and only if it speaks for caller 1
   pub holds_last : (n : ℕ) → own_at v 0 ≡ Some n → v.last_caller ≡ Some last
@@ -43,7 +43,7 @@ Speaks views seat i = (v : View) × (get_elem? views seat ≡ some v) × IsActiv
 abbrev pub NoneHolds : List View → Type 0
 NoneHolds views = (seat : ℕ) (v : View) → get_elem? views seat ≡ some v → ¬ IsHolding v.stage
 
--- the rule, where `summary` reads the value, and `opening` is the summary of the one that the lock was made of
+-- the rule, where `summary` reads the value, and `opening` is the summary of the one that the lock was made with
 pub record KeepsRule {T : Type 0} (summary : T → Summary) (opening : Summary) (s : State (Option T) View) : Type 0 where
   pub ticket : ℕ
   pub serving : ℕ
@@ -66,5 +66,5 @@ pub record KeepsRule {T : Type 0} (summary : T → Summary) (opening : Summary) 
   pub total : ticket + sum_by left_of s.views ≡ most_tickets * last
   pub each_seat : (seat : ℕ) (v : View) → get_elem? s.views seat ≡ some v → IsActive v.stage
       → SeatFits opening ticket serving last counts holder owner seat v
-  -- where no seat holds the slot it has a value, which has grown by the counts
+  -- if no seat holds the slot, the slot has a value, which has grown by the counts
   pub at_home : NoneHolds s.views → (x : T) × (s.homes ≡ some (Some x) ∷ []) × HasGrown opening counts (summary x)

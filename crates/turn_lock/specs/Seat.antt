@@ -1,9 +1,9 @@
 -- A lock, its seats and its turns, as contracts see them.
-use Rattle.std.specs.Prelude.{ℕ, ◌-◌, ◌≤◌, List, ◌∷◌, replicate, sum_by, unwrap_or, Option, Some, None, IsSome, IsSomeAnd, slice_index_or, slice_set}
+use Rattle.std.specs.Prelude.{ℕ, ◌≡◌, ◌-◌, ◌≤◌, List, ◌∷◌, replicate, sum_by, unwrap_or, Option, Some, None, IsSome, IsSomeAnd, slice_index_or, slice_set}
 use Rattle.atomic_table.specs.Seated.{TableId}
 use Rattle.turn_lock.specs.declared.view.Summary.{Summary}
 
--- which lock it is, and the summary of the value that it was made of
+-- which lock it is, and the summary of the value that it was made with
 pub record LockFields : Type 0 where
   pub id : TableId
   pub opening : Summary
@@ -15,7 +15,7 @@ pub record SeatFields : Type 0 where
   pub turns : ℕ
   -- what was committed when it last gave the value back
   pub seen : ℕ
-  -- the last caller number given out, where the seat holds it
+  -- the last caller number given out, if the seat holds it
   pub last_caller : Option ℕ
   -- in the order of the callers, the own count of each that the seat speaks for
   pub own : List (Option ℕ)
@@ -29,6 +29,12 @@ pub record TurnFields : Type 0 where
 abbrev pub own_of : SeatFields → ℕ → Option ℕ
 own_of seat c = slice_index_or (None ∷ seat.own) c None
 
+-- the new seat is of the same lock as the old one, with the same own caller and the same last caller number
+pub record IsSameSeat (old new : SeatFields) : Type 0 where
+  pub lock : new.lock ≡ old.lock
+  pub caller : new.caller ≡ old.caller
+  pub last : new.last_caller ≡ old.last_caller
+
 -- the own counts of all callers that the seat speaks for, added up
 abbrev pub own_total : SeatFields → ℕ
 own_total seat = sum_by (λ n. unwrap_or n 0) seat.own
@@ -37,7 +43,7 @@ own_total seat = sum_by (λ n. unwrap_or n 0) seat.own
 abbrev pub SpeaksForAll : SeatFields → Type 0
 SpeaksForAll seat = IsSomeAnd seat.last_caller (λ last. (c : ℕ) → 1 ≤ c → c ≤ last → IsSome (own_of seat c))
 
--- the own counts where only the caller at this place, from 0, is spoken for, and committed nothing
+-- the own counts of a seat that speaks only for the caller at this place (from 0), who committed nothing yet
 abbrev pub only : ℕ → List (Option ℕ)
 only place = slice_set (replicate 64 None) place (Some 0)
 

@@ -1,4 +1,5 @@
--- What each kind of step tells the seat that makes it: of the step, the seat before, the number found and the seat after.
+-- What each kind of step tells the seat that makes it, given the step, the seat before, the number found and the seat
+-- after.
 use Rattle.std.specs.Prelude.{◌≡◌, ℕ, ◌^◌, ◌≤◌, ◌∷◌, slice_index, Option, Some}
 use Rattle.atomic_table.specs.Table.{Me, Step, rest}
 use Rattle.turn_lock.specs.declared.view.Summary.{Summary}
@@ -14,7 +15,7 @@ module _ {T : Type 0} where
   abbrev pub DrawsTicket : Step (Option T) → TableSeat T → ℕ → TableSeat T → Type 0
   DrawsTicket step a found b = b ≡ (after_draw a.0 found, a.1)
 
-  -- the seat is called where the number found is its ticket; and no seat ever has more turns than 64 callers may take
+  -- the seat is called if the number found is its ticket; and no seat ever has more turns than 64 callers may take
   pub record LoadsServing (step : Step (Option T)) (a : TableSeat T) (found : ℕ) (b : TableSeat T) : Type 0 where
     pub called : WaitsFor a.0.stage found → b ≡ (after_call a.0, a.1)
     pub same : ¬ WaitsFor a.0.stage found → b ≡ a
@@ -23,7 +24,8 @@ module _ {T : Type 0} where
   abbrev pub LoadsCount : Step (Option T) → TableSeat T → ℕ → TableSeat T → Type 0
   LoadsCount step a found b = b ≡ (after_count a.0 found, a.1)
 
-  -- the value has grown by the counts that were read, among which are the seat's own, and is not behind what it has seen
+  -- the value has grown by the counts that were read, which agree with the seat's own, and no less was committed to it
+  -- than the seat has seen
   pub record SlotTaken (summary : T → Summary) (a b : TableSeat T) (x : T) : Type 0 where
     pub seat : b ≡ (after_take a.0, (0, Some x) ∷ a.1)
     pub value : HasGrown a.0.opening (counts_read a.0.stage) (summary x)

@@ -58,7 +58,7 @@ WaitsFor (Waiting t) n = t ≡ n
 WaitsFor (Called t read) n = ⊥
 WaitsFor (Holding t read) n = ⊥
 
--- no seat took it in
+-- the seat was not joined into another
 abbrev pub IsActive : Stage → Type 0
 IsActive Spent = ⊥
 IsActive Idle = Unit {0}
@@ -96,7 +96,7 @@ after_count v count = at_stage v (Called (ticket_of v.stage) (counts_read v.stag
 abbrev pub after_take : View → View
 after_take v = at_stage v (Holding (ticket_of v.stage) (counts_read v.stage))
 
--- the own caller's count, as read, has grown
+-- the counts that were read, with that of its own caller grown
 abbrev pub grown_counts : View → ℕ → List ℕ
 grown_counts v growth = slice_set (counts_read v.stage) v.place (slice_index (counts_read v.stage) v.place + growth)
 
@@ -116,7 +116,7 @@ after_pass v = record v { stage = Idle; turns = v.turns + 1 }
 abbrev pub last_of : View → ℕ
 last_of v = unwrap_or v.last_caller 0
 
--- a caller number more is given out
+-- one more caller number is given out
 abbrev pub after_split : View → View
 after_split v = record v { last_caller = Some (suc (last_of v)) }
 
@@ -124,13 +124,13 @@ after_split v = record v { last_caller = Some (suc (last_of v)) }
 abbrev pub new_view : View → View
 new_view v = record { opening = v.opening; stage = Idle; place = last_of v; seen = v.seen; turns = 0; left = most_tickets; last_caller = None; own = only (last_of v) }
 
--- at each place what stands in the first list, or else what stands in the second
+-- at each place what the first list has there, or else what the second has
 abbrev pub merged : List (Option ℕ) → List (Option ℕ) → List (Option ℕ)
 merged [] ys = ys
 merged (x ∷ xs) [] = x ∷ xs
 merged (x ∷ xs) (y ∷ ys) = option_or x y ∷ merged xs ys
 
--- a seat is taken in
+-- the second seat is joined into the first
 abbrev pub after_join : View → View → View
 after_join v w = record v { seen = max v.seen w.seen; turns = v.turns + w.turns; left = v.left + w.left; last_caller = option_or v.last_caller w.last_caller; own = merged v.own w.own }
 
@@ -138,6 +138,6 @@ after_join v w = record v { seen = max v.seen w.seen; turns = v.turns + w.turns;
 pub no_summary : Summary
 no_summary = record { setup = (setup_for [], 0); committed = 0; entries = [] }
 
--- what is left of a seat that was taken in
+-- the view of a seat that was joined into another
 abbrev pub spent : View
 spent = record { opening = no_summary; stage = Spent; place = 0; seen = 0; turns = 0; left = 0; last_caller = None; own = [] }

@@ -1,4 +1,4 @@
-//! What the lock reads of the value behind it.
+//! What the lock reads of the value that it guards.
 
 ghost use Rattle.std.specs.Prelude.{◌≡◌, ℕ, List};
 
@@ -11,7 +11,7 @@ pub trait Kept {
 
     ghost committed: { Self → ℕ };
 
-    // 64 numbers, of which number c, counted from 1, is how many entries are by caller c.
+    // 64 numbers: number c, counted from 1, is how many entries are by caller c.
     ghost entries: { Self → List ℕ };
 
     fn committed(&self) -> u64

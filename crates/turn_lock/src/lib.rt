@@ -1,7 +1,8 @@
 //! A ticket lock over a value that counts what each caller committed.
 //!
-//! A caller draws a ticket, waits until it is served, and has the value until it gives it back. Its seat knows how many
-//! entries the value has by each caller that the seat speaks for, and how much was committed when it last had the value.
+//! A caller draws a ticket, waits until it is served, and has the value until it gives the value back. Its seat knows
+//! how many entries each caller that it speaks for has committed since the lock was made, and how much was committed
+//! when it last gave the value back.
 #![tactic(auto)]
 
 mod kept;

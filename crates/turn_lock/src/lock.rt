@@ -4,7 +4,7 @@ ghost use Rattle.std.specs.Prelude.{◌≡◌, ℕ, ◌+◌, ◌-◌, ◌^◌, �
 ghost use Rattle.std.specs.Option.{option_or};
 ghost use Rattle.turn_lock.specs.declared.view.Stage.TheVariants.{Waiting, Called};
 ghost use Rattle.turn_lock.specs.Summary.{summary_of, entries_by, Commits};
-ghost use Rattle.turn_lock.specs.Seat.{own_of, own_total, only, first_seat, new_seat, SpeaksForAll};
+ghost use Rattle.turn_lock.specs.Seat.{own_of, own_total, only, first_seat, new_seat, IsSameSeat, SpeaksForAll};
 ghost use Rattle.turn_lock.specs.View.{at_stage, merged};
 
 use crate::kept::Kept;
@@ -26,7 +26,7 @@ use tierra_model::OutOfMemory;
 /// How many times a waiter looks, without a pause, whether it is served.
 const LOOKS: u32 = 200;
 
-/// How many times more it looks where few are ahead of it, and lets other threads run between two looks. Then it parks.
+/// How many more times it looks if few are ahead of it, letting other threads run between looks. Then it parks.
 const MORE_LOOKS: u32 = 500;
 
 /// How many ahead of it count as few.
@@ -45,7 +45,7 @@ pub struct NoRoom<T> {
 #[derive(Drop)]
 pub struct TurnLock<T: Kept> {
     table: Table<Option<T>, View, Snapshot<T>, LockRule, Global>,
-    // How many park or are about to. Who passes the turn on wakes them, and spares the call where there are none.
+    // How many are parked or about to park. Passing the turn on wakes them, and skips the call if there are none.
     parked: AtomicU64,
     alloc: Global,
 }
@@ -103,7 +103,7 @@ impl<T: Kept> TurnLock<T> {
         }
     }
 
-    /// A new seat for `caller`, for which it speaks alone.
+    /// A new seat that speaks for `caller` alone.
     pub fn split(&self, seat: &mut Seat, caller: u32) -> Result<Seat, OutOfMemory>
         requires lock { seat.old.lock ≡ self.now }
         requires first { IsSome (own_of seat.old 1) }
@@ -171,12 +171,9 @@ impl<T: Kept> TurnLock<T> {
     pub fn give(&self, turn: Turn<T>, value: T) -> Seat
         requires lock { turn.seat.lock ≡ self.now }
         requires value { Commits turn.seat.caller turn.taken (summary_of T.setup T.committed T.entries value) }
-        ensures lock { result.lock ≡ turn.seat.lock }
-        ensures caller { result.caller ≡ turn.seat.caller }
+        ensures seat { IsSameSeat turn.seat result }
         ensures turns { result.turns ≡ turn.seat.turns + 1 }
         ensures seen { result.seen ≡ T.committed value }
-        ensures last { result.last_caller ≡ turn.seat.last_caller }
-
         ensures own { IsSomeAnd (own_of turn.seat turn.seat.caller)
             (λ n. own_of result turn.seat.caller ≡ Some (n + (T.committed value - turn.taken.committed))) }
         ensures others { (c : ℕ) → c ≢ turn.seat.caller → own_of result c ≡ own_of turn.seat c }
@@ -327,7 +324,7 @@ impl<T: Kept> TurnLock<T> {
         unreachable!()
     }
 
-    // The ticket that is served, where it is not yet the seat's.
+    // The ticket that is served, or `None` if it is the seat's.
     fn served_before(&self, table_seat: &mut TableSeat<T>, ticket: u64) -> Option<u64>
         requires lock { table_seat.old.table_id ≡ self.now.id }
         requires waits { table_seat.old.me.0.stage ≡ Waiting ticket }
@@ -358,7 +355,7 @@ impl<T: Kept> TurnLock<T> {
     }
 }
 
-// The value in a slot, for a table.
+// One slot with the value, for a table.
 fn one_slot<T>(alloc: Global, value: T) -> Result<Vec<Option<T>>, NoRoom<T>>
     ensures ok { IfOk result (λ slots. slots.items ≡ Some value ∷ []) }
     ensures refused { IfErr result (λ r. r.value ≡ value) }
@@ -395,7 +392,7 @@ fn only_for(caller: u32) -> [Option<u64>; 64]
     own
 }
 
-// Takes in the counts of another seat.
+// Fills in the counts of another seat where there are none yet.
 fn merge(own: &mut [Option<u64>; 64], other: &[Option<u64>; 64])
     ensures { own.new ≡ merged own.old other.now }
 {

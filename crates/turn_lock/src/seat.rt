@@ -31,7 +31,7 @@ impl Model for Seat {
 }
 
 impl Seat {
-    /// How many turns it took, with those of the seats that were joined into it.
+    /// How many turns the seat took, with those of the seats that were joined into it.
     pub fn turns(&self) -> u64
         ensures { result ≡ self.now.turns }
     {
@@ -54,7 +54,7 @@ impl Seat {
         self.caller
     }
 
-    /// How many entries the caller committed since the lock was made, or `None` where the seat does not speak for it.
+    /// How many entries the caller committed since the lock was made, or `None` if the seat does not speak for it.
     pub fn own(&self, caller: u32) -> Option<u64>
         ensures { result ≡ own_of self.now caller }
     {
@@ -66,8 +66,8 @@ impl Seat {
     }
 }
 
-/// A turn: the seat that took it, while the value is out. Only `give` ends it, so it is not `Drop`: the lock would serve nobody
-/// after a turn that was let go.
+/// A turn: the seat that took it, while the value is out. Only `give` ends a turn. It is not `Drop`, because after a
+/// dropped turn the lock would serve nobody.
 pub struct Turn<T: Kept> {
     pub(crate) table_seat: atomic_table::Seat<Option<T>, View>,
     pub(crate) caller: u32,

@@ -1,4 +1,4 @@
-//! The kinds of step on the table, and what each tells the seat that makes it.
+//! The kinds of step on the table, and what the seat that makes it learns.
 
 ghost use Rattle.turn_lock.specs.Summary.{summary_of};
 ghost use Rattle.turn_lock.specs.View.{after_split, new_view, after_join, spent};

@@ -42,7 +42,7 @@ impl Tally {
         }
     }
 
-    // One entry more by this caller, where it can be counted.
+    // Counts one more entry by this caller, if it can be counted.
     fn advance(&mut self, caller: u32)
         requires { (1 ≤ caller) × (caller ≤ 64) }
         ensures { let summary = summary_of ⟦<Tally as Kept>⟧.setup ⟦<Tally as Kept>⟧.committed ⟦<Tally as Kept>⟧.entries
@@ -109,7 +109,7 @@ fn work_all<R: Threads + Wait + Sync>(
     map_vec(rt, seats, &|seat| work(rt, lock, seat, times))
 }
 
-// Holds a turn for far longer than another caller looks before it parks.
+// Holds a turn for far longer than a waiting caller looks before it parks.
 fn hold<R: Clock + Wait>(rt: &R, lock: &TurnLock<Tally>, seat: Seat) -> Seat
     requires lock { seat.lock ≡ lock.now }
     requires room { seat.turns < 2 ^ 40 }

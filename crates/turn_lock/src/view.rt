@@ -1,8 +1,8 @@
-//! What the rule of the lock speaks of: the table behind it, and what each seat knows. Contracts alone see this, and no value of
-//! these types is made.
+//! What the rule of the lock speaks of: the table that the lock uses, and what each seat knows. Only contracts see
+//! this, and no value of these types is made.
 //!
-//! Word 0 of the table is the next ticket, word 1 the ticket that is served, and word c + 1 counts the entries by caller c. The
-//! one slot has the value, or `None` while a turn has it.
+//! Word 0 of the table is the next ticket, word 1 the ticket that is served, and word c + 1 counts the entries by
+//! caller c. The one slot has the value, or `None` while a turn has it.
 
 use crate::kept::Kept;
 use atomic_table::TableRule;
@@ -17,9 +17,9 @@ pub struct Summary {
     pub entries: [u64; 64],
 }
 
-/// What a seat is at.
+/// The stage that a seat has reached.
 pub enum Stage {
-    /// Another seat took it in.
+    /// It was joined into another seat.
     Spent,
     /// It has no ticket.
     Idle,
@@ -27,13 +27,13 @@ pub enum Stage {
     Waiting(u64),
     /// Its ticket is served, and it has read these counts, in the order of the callers.
     Called(u64, LinkedList<u64>),
-    /// It has all counts, and the slot is out with it.
+    /// It has all counts, and it holds the slot.
     Holding(u64, LinkedList<u64>),
 }
 
 /// What a seat knows.
 pub struct View {
-    /// Of the value that the lock was made of.
+    /// The summary of the value that the lock was made with.
     pub opening: Summary,
     pub stage: Stage,
     /// Its own caller's number less one, which is the caller's place in `own`.
@@ -42,9 +42,9 @@ pub struct View {
     pub turns: u64,
     /// How many tickets its callers may still draw.
     pub left: u64,
-    /// The last caller number given out, where it speaks for caller 1.
+    /// The last caller number given out, if it speaks for caller 1.
     pub last_caller: Option<u64>,
-    /// In the order of the callers, the count of each that it speaks for.
+    /// In the order of the callers, the count of each that it speaks for, and `None` for the others.
     pub own: [Option<u64>; 64],
 }
 

@@ -1,4 +1,4 @@
--- The groups of the genebank, read off savings: those of one quantum follow each other, and are a group.
+-- The groups of the genebank, read off the savings: the consecutive savings of one quantum form a group.
 use Rattle.std.specs.Prelude.{List, [], if◌then◌else◌, map, ℕ, ◌==◌, ◌∷◌}
 use Rattle.tierra_model.specs.declared.genebank.Form.TheVariants as form
 use Rattle.tierra_model.specs.Genebank.{saved_of}
@@ -8,7 +8,7 @@ use Rattle.tierra_model.specs.World.{Genotype, Saving}
 abbrev pub group_of : List Genotype → ℕ → List Saving → GroupFields
 group_of genotypes q savings = record { quantum = q; form = form.Two; saved = map (saved_of genotypes) savings }
 
--- a saving before those of the groups: it is one more of the first group, or a group of its own
+-- puts a saving before the groups: it joins the first group if that has its quantum, and else is a group of its own
 abbrev pub with_saving : List Genotype → Saving → List GroupFields → List GroupFields
 with_saving genotypes s [] = group_of genotypes s.quantum (s ∷ []) ∷ []
 with_saving genotypes s (g ∷ groups) =

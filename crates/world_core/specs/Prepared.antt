@@ -1,4 +1,4 @@
--- What a replay needs, and when it is at hand.
+-- What a replay needs, and when all of it is there.
 use Rattle.std.specs.Prelude.{List, None, Option, Some, [], if◌then◌else◌, length, slice_range, slice_set, true, ℕ, ◌++◌, ◌+◌, ◌-◌, ◌<◌, ◌^◌, ◌∷◌, ◌≡◌, ◌≤◌}
 use Rattle.tierra_model.specs.declared.creatures.Block.{Block}
 use Rattle.tierra_model.specs.declared.creatures.Creature.{Creature}
@@ -12,7 +12,7 @@ use Rattle.tierra_model.specs.Replay.{EventsFit}
 use Rattle.tierra_model.specs.SceneRun.{births_of}
 use Rattle.world_core.specs.Running.{WorldFields, can_be_set}
 
--- what a prepared value says: the events, the record after them, and the codes of the newborns in the order of their births
+-- what a prepared value has: the events, the record after them, and the codes of the newborns in the order of birth
 pub record PreparedFields : Type 0 where
   pub events : List Event
   pub after : Creature
@@ -23,7 +23,7 @@ abbrev pub daughter_codes : Option Block → List ℕ → List (List ℕ)
 daughter_codes None soup = []
 daughter_codes (Some b) soup = slice_range soup b.at (b.at + b.size) ∷ []
 
--- the code of the creature that the event brings, if it brings one
+-- the code of the creature that is born in the event, if one is
 abbrev pub code_at : Event → Option Block → List ℕ → List (List ℕ)
 code_at (event.Divide ran moved) held soup = daughter_codes held soup
 code_at _ held soup = []
@@ -31,7 +31,7 @@ code_at _ held soup = []
 abbrev pub code_born : World → Event → List (List ℕ)
 code_born w e = code_at e (front w).daughter w.soup
 
--- the codes of all whom the events bring, one event after another
+-- the codes of all creatures born in the events, in order
 abbrev pub codes_born : World → List Event → List (List ℕ)
 codes_born w [] = []
 codes_born w (e ∷ es) = code_born w e ++ codes_born (apply_event w e) es
@@ -55,14 +55,14 @@ abbrev pub WritesBelow : ℕ → Event → Type 0
 WritesBelow n (event.Write at value) = at < n
 WritesBelow n _ = Unit {0}
 
--- the daughter block that is held after an event, where this one was held before
+-- the daughter block held after an event, if the one given was held before it
 abbrev pub daughter_after : Event → Option Block → Option Block
 daughter_after event.GiveUp held = None
 daughter_after (event.Mal at size) held = Some (record { at = at; size = size })
 daughter_after (event.Divide ran moved) held = None
 daughter_after _ held = held
 
--- how many blocks an event takes or gives back, at the most
+-- at most how many blocks an event takes or gives back
 abbrev pub blocks_of : Event → ℕ
 blocks_of event.GiveUp = 1
 blocks_of (event.Mal at size) = 1
@@ -78,8 +78,8 @@ abbrev pub CanWriteAll : WorldFields → List Event → Type 0
 CanWriteAll h [] = Unit {0}
 CanWriteAll h (e ∷ es) = CanWrite h e × CanWriteAll h es
 
--- The events can be done without memory: there are not too many, the codes are those of the newborns, each cell that they
--- write can be set, and there is room.
+-- The events can be replayed without memory: there are not too many, the codes are those of the newborns, each cell
+-- that the events write can be set, and there is room for the births and the blocks.
 pub record HasRoomFor (events : List Event) (codes : List (List ℕ)) (h : WorldFields) : Type 0 where
   pub few : length events < 2 ^ 31
   pub newborns : codes ≡ codes_born h.world events

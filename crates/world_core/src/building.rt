@@ -1,4 +1,4 @@
-//! A world put together from what its bytes tell.
+//! Puts a world together from what its bytes say.
 
 ghost use Rattle.std.specs.Prelude.{◌≡◌, ◌≤◌, ◌<◌, ℕ, All, IfOk, List, length, nat_lt, not};
 ghost use Rattle.tierra_model.specs.declared.limits.TheConstants.{COUNT_END};
@@ -29,7 +29,7 @@ use std::alloc::Global;
 use tierra_model::{Block, Creature, OutOfMemory};
 use world_state::{Draft, Found, blocks_in, genotypes_from};
 
-/// The world that was drafted, which is sound.
+/// The world of a sound draft.
 pub(crate) fn world_from(alloc: Global, draft: Draft) -> Result<World, OutOfMemory>
     requires { IsSound draft }
     ensures { IfOk result (λ w. w.world ≡ draft) }
@@ -120,7 +120,7 @@ fn slicer_from(alloc: Global, ids: &[u64]) -> Result<Slicer, OutOfMemory>
     Ok(slicer)
 }
 
-// The reaper queue, in which each has the errors of its creature.
+// The reaper queue, in which each entry has the errors of its creature.
 fn reaper_from(alloc: Global, living: &Living, ids: &[u64]) -> Result<Reaper, OutOfMemory>
     requires once { (id : ℕ) → times_in ids.now id ≤ 1 }
     requires here { (id : ℕ) → times_in ids.now id ≡ times_in (ids_of living.now.creatures) id }
@@ -155,7 +155,7 @@ fn blocks_from(alloc: Global, size: u32, living: &[Creature]) -> Result<Blocks, 
     Ok(space)
 }
 
-// A soup of which these blocks are taken.
+// A soup in which these blocks are taken.
 fn space_without(alloc: Global, size: u32, blocks: &[Block]) -> Result<Blocks, OutOfMemory>
     requires lie { All (IsBlock size) blocks.now }
     requires apart { (p : ℕ) → covers blocks.now p ≤ 1 }
@@ -184,7 +184,7 @@ fn census_from(alloc: Global, living: &[Creature]) -> Result<Census, OutOfMemory
 
 // ---- the genotypes
 
-// The genotypes that were found, each of which has a code of its own.
+// The genotypes that were read, no two of which have the same code.
 fn all_genotypes(alloc: Global, founds: &[Found]) -> Result<Genotypes, OutOfMemory>
     requires codes { All (λ f. IsCode f.code) founds.now }
     requires once { (code : List ℕ) → times_coded (genotypes_of founds.now) code ≤ 1 }

@@ -1,7 +1,7 @@
-//! That the numbers of a world fit the types that hold them. Nothing is done here but to look at each of them.
+//! Shows that the numbers of a world fit the types that hold them, only by looking at each of them.
 
 ghost use Rattle.std.specs.Int.{w32};
-ghost use Rattle.std.specs.Prelude.{◌<◌, ◌^◌, All, FitsSigned, length};
+ghost use Rattle.std.specs.Prelude.{◌<◌, ◌^◌, All, FitsSigned};
 ghost use Rattle.tierra_model.specs.Sound.{IsSound};
 ghost use Rattle.world_state.specs.Restoring.{FitsTypes, HasLongNumbers, HasWords, IsLongEffort};
 ghost use Rattle.world_state.specs.Savings.{savings_of};

@@ -1,4 +1,4 @@
-//! The genotypes, and what is saved of them.
+//! The genotypes and their savings.
 
 ghost use Rattle.std.specs.Prelude.{◌≡◌, ◌+◌, ◌<◌, ◌≤◌, [], All, OnOk, length};
 ghost use Rattle.tierra_model.specs.declared.limits.TheConstants.{COUNT_END};
@@ -34,7 +34,7 @@ impl Model for Genes {
 }
 
 impl Genes {
-    /// None yet. It takes no memory.
+    /// No genotypes and no savings yet. It takes no memory.
     pub(crate) fn new(alloc: Global) -> Genes
         ensures genotypes { result.genotypes ≡ [] }
         ensures saved { result.saved ≡ [] }
@@ -45,7 +45,7 @@ impl Genes {
         }
     }
 
-    /// These genotypes, and what was saved of them.
+    /// These genotypes and their savings.
     pub(crate) fn of(genotypes: Genotypes, saved: Vec<Saving>) -> Genes
         ensures genotypes { result.genotypes ≡ genotypes.genotypes }
         ensures saved { result.saved ≡ savings_of saved.items }
@@ -53,7 +53,7 @@ impl Genes {
         Genes { genotypes, saved }
     }
 
-    /// Takes the memory that as many births may need.
+    /// Takes the memory that `more` births may need.
     pub(crate) fn reserve(&mut self, more: u32) -> Result<(), OutOfMemory>
         ensures genotypes { self.new.genotypes ≡ self.old.genotypes }
         ensures saved { self.new.saved ≡ self.old.saved }
@@ -83,7 +83,7 @@ impl Genes {
         self.saved.len() as u64
     }
 
-    /// Notes what daughter number `bred` of a mother cost her, where the mother has the genotype.
+    /// Notes what daughter number `bred` cost a mother of the genotype.
     pub(crate) fn note_effort(&mut self, genotype: u64, bred: u64, effort: Effort)
         requires { genotype < length self.old.genotypes }
         ensures genotypes { self.new.genotypes ≡ with_effort_of genotype bred effort self.old.genotypes }
@@ -93,8 +93,8 @@ impl Genes {
         self.genotypes.note_effort(genotype, bred, effort);
     }
 
-    /// Counts an individual of quantum `q`, and saves its genotype where `save_at` are reached. It answers the number of
-    /// the genotype.
+    /// Counts a creature, born or inoculated in quantum `q`, and saves its genotype when the count reaches `save_at`. It
+    /// returns the number of the genotype.
     pub(crate) fn note_birth(
         &mut self,
         code: Code,

@@ -1,4 +1,4 @@
-//! The groups of the genebank, read off what a world saved.
+//! The groups of the genebank, read off the savings of a world.
 
 ghost use Rattle.std.specs.Prelude.{◌≡◌, ◌++◌, ◌∷◌, ◌<◌, ◌≤◌, All, IfOk, List, OnOk, drop, length, option_map};
 ghost use Rattle.tierra_model.specs.Genebank.{groups_from, name_of, saved_of};
@@ -70,7 +70,7 @@ fn all_groups(
     Ok(Groups { items })
 }
 
-// Where the savings of the quantum end that begin at the place.
+// The end of the run of savings that starts at the place and has one quantum.
 fn run_end(saved: &[Saving], at: usize) -> usize
     requires { at < length saved.now }
     ensures within { at < result }
@@ -86,7 +86,7 @@ fn run_end(saved: &[Saving], at: usize) -> usize
     end
 }
 
-// The group of the savings, unless it is one of those to be skipped.
+// Appends the group of the savings, unless it is still to be skipped.
 fn take_group(
     alloc: Global,
     genotypes: &Genotypes,

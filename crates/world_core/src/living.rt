@@ -17,8 +17,8 @@ use std::collections::VecDeque;
 use std::marker::Model;
 use tierra_model::{Creature, OutOfMemory};
 
-/// The records of the living. A creature is found by its birth number, where it was seen last, or else in steps that
-/// grow with the logarithm of how many live.
+/// The records of the living. A creature is found by its birth number: at the place where it was last seen or near it,
+/// or else by a binary search.
 #[derive(Drop)]
 pub(crate) struct Living {
     creatures: VecDeque<Creature>,
@@ -54,7 +54,7 @@ impl Living {
         }
     }
 
-    /// Takes the memory that as many births may need.
+    /// Takes the memory that `more` births may need.
     pub(crate) fn reserve(&mut self, more: u32) -> Result<(), OutOfMemory>
         ensures creatures { self.new.creatures ≡ self.old.creatures }
         ensures ok { OnOk result (more ≤ self.new.spare) }
@@ -84,7 +84,7 @@ impl Living {
         }
     }
 
-    /// Puts a record in the place of the one of its creature.
+    /// Replaces the record of a creature.
     pub(crate) fn put(&mut self, creature: Creature)
         requires { 0 < times_in (ids_of self.old.creatures) creature.id }
         ensures creatures { self.new.creatures ≡ with_record creature self.old.creatures }
@@ -111,7 +111,7 @@ impl Living {
         self.creatures.push_back_reserved(newborn);
     }
 
-    /// Takes a creature out, whose room is then free again.
+    /// Takes a creature out, which leaves room for one more.
     pub(crate) fn remove(&mut self, id: u64)
         requires { 0 < times_in (ids_of self.old.creatures) id }
         ensures creatures { self.new.creatures ≡ without id self.old.creatures }
@@ -127,7 +127,7 @@ impl Living {
     }
 }
 
-// Where the creature stands, if it does: mostly where it was seen last.
+// The place of the creature, if it lives: mostly the one where it was last seen.
 #[inline]
 fn place_of(creatures: &VecDeque<Creature>, places: &Places, id: u64) -> Option<usize>
     requires { Ordered 1 (ids_of creatures.now.items) }
@@ -142,7 +142,7 @@ fn place_of(creatures: &VecDeque<Creature>, places: &Places, id: u64) -> Option<
     place_after_moves(creatures, places, id)
 }
 
-// The same of a creature whose record may have moved.
+// The place of the creature, if it lives, when its record is not where it was last seen.
 #[inline(never)]
 fn place_after_moves(creatures: &VecDeque<Creature>, places: &Places, id: u64) -> Option<usize>
     requires { Ordered 1 (ids_of creatures.now.items) }
@@ -156,15 +156,16 @@ fn place_after_moves(creatures: &VecDeque<Creature>, places: &Places, id: u64) -
     }
 }
 
-// Whether the creature stands at the place.
+// Whether the creature's record is at the place.
 fn stands_at(creatures: &VecDeque<Creature>, place: usize, id: u64) -> bool
-    ensures { result ≡ true → HoldsAt (λ c. c.id ≡ id) creatures.now.items place × (place < length creatures.now.items) }
+    ensures { result ≡ true → HoldsAt (λ c. c.id ≡ id) creatures.now.items place
+        × (place < length creatures.now.items) }
 {
     let inside = place < creatures.len();
     inside && creatures[place].id == id
 }
 
-// Where the creature stands, if it does, by a search.
+// The place of the creature, if it lives, by a search.
 fn search(creatures: &VecDeque<Creature>, id: u64) -> Option<usize>
     requires { Ordered 1 (ids_of creatures.now.items) }
     ensures some { IfSome result (λ place. HoldsAt (λ c. c.id ≡ id) creatures.now.items place

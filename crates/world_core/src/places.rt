@@ -3,16 +3,17 @@
 use std::alloc::Global;
 use std::collections::VecDeque;
 
-// So many places are looked at. Deaths of later-born creatures move a record by less than was counted.
+// How many places `near` looks at. A record can be past the place reckoned, since deaths of later-born creatures are
+// counted but do not move it.
 const NEAR: usize = 24;
 
-/// The place of each creature's record among those of the living, as far as is known. Whoever asks looks whether it
-/// stands there, so nothing is promised of the answer.
+/// A guess at the place of each creature's record among those of the living. Nothing is promised of the answer: the
+/// caller checks whether the record is there.
 #[derive(Drop)]
 pub(crate) struct Places {
-    // The birth numbers in the order of the records, which lie farther apart.
+    // The birth numbers in the order of the records; they lie closer together in memory than the records.
     ids: VecDeque<u64>,
-    // Where each was last seen, by the low bits of its number. A place is counted with those that had left before.
+    // Where each was last seen, by the low bits of its number, plus the value of `left` at that time.
     seen: Vec<usize>,
     left: usize,
 }
@@ -26,8 +27,8 @@ impl Places {
         }
     }
 
-    /// Makes the tables large enough for so many creatures, if there is memory; they serve without. Where the second
-    /// grows, what was seen is forgotten.
+    /// Makes the tables large enough for this many creatures, if there is memory; without it they still work. When
+    /// `seen` grows, what it held may be lost.
     pub(crate) fn make_room(&mut self, creatures: usize) {
         let more = creatures.saturating_sub(self.ids.len());
         let _ = self.ids.reserve(more);
@@ -52,7 +53,7 @@ impl Places {
         }
     }
 
-    /// Where it is now, if that is one of the few places from there on.
+    /// Where the record is now, if it is one of the `NEAR` places from where it was last seen.
     pub(crate) fn near(&self, id: u64) -> Option<usize> {
         let last = self.last(id);
         for place in last..last.saturating_add(NEAR).min(self.ids.len()) {
@@ -63,7 +64,7 @@ impl Places {
         None
     }
 
-    /// The record of a creature is at the place.
+    /// Notes that the record of a creature is at the place.
     pub(crate) fn note(&mut self, id: u64, place: usize) {
         let slot = self.slot(id);
         if let Some(seen) = self.seen.get_mut(slot) {
@@ -71,15 +72,14 @@ impl Places {
         }
     }
 
-    /// Somebody was born, and is the last.
+    /// Notes a birth: the newborn's record is the last.
     pub(crate) fn note_birth(&mut self, id: u64) {
         let place = self.ids.len();
         self.note(id, place);
         let _ = self.ids.push_back(id);
     }
 
-    /// Whose record was at the place left. Those born later have moved down by one place, and the table stays right for
-    /// them.
+    /// Notes that the creature at the place left. Later records move down by one place, which `left` accounts for.
     pub(crate) fn note_leaving(&mut self, place: usize) {
         if place < self.ids.len() {
             self.ids.remove(place);

@@ -70,7 +70,7 @@ impl Population {
         }
     }
 
-    /// Takes the memory that as many births may need.
+    /// Takes the memory that `more` births may need.
     pub(crate) fn reserve(&mut self, more: u32) -> Result<(), OutOfMemory>
         ensures living { self.new.living ≡ self.old.living }
         ensures slicer { self.new.slicer ≡ self.old.slicer }
@@ -114,7 +114,7 @@ impl Population {
         self.one(self.slicer.front())
     }
 
-    /// The birth number at a place of the slicer queue, if there are so many.
+    /// The birth number at a place of the slicer queue, if the queue reaches that far.
     pub(crate) fn slicer_at(&self, k: u32) -> Option<u64>
         ensures { result ≡ slice_get self.now.slicer k }
     {
@@ -160,7 +160,7 @@ impl Population {
         }
     }
 
-    /// Puts a record in the place of the one of its creature, with the same errors.
+    /// Replaces the record of a creature by one with the same errors.
     pub(crate) fn put(&mut self, creature: Creature)
         requires here { 0 < times_in (ids_of self.old.living) creature.id }
         requires errors { (one_of self.old.living creature.id).errors ≡ creature.errors }
@@ -172,7 +172,7 @@ impl Population {
         self.living.put(creature);
     }
 
-    /// Puts in the record of a creature that has one more error, and moves it up in the reaper queue.
+    /// Replaces the record of a creature by one with one more error, and moves the creature up in the reaper queue.
     pub(crate) fn error(&mut self, creature: Creature)
         requires here { 0 < times_in (ids_of self.old.living) creature.id }
         requires queue { 0 < times_in self.old.reaper creature.id }

@@ -1,4 +1,4 @@
-//! Events with all that their replay needs, so that it takes no memory.
+//! Events with everything their replay needs, so that the replay takes no memory.
 
 ghost use Rattle.std.specs.Prelude.{◌≡◌, ◌+◌, ◌<◌, ◌≤◌, ◌^◌, ◌++◌, ℕ, IfOk, IfSome, OnOk, drop, length, slice_range, true};
 ghost use Rattle.tierra_model.specs.declared.events.Event.TheVariants as event;
@@ -17,7 +17,7 @@ use std::collections::VecDeque;
 use std::marker::Model;
 use tierra_model::{Block, Code, Creature, Event, EventList, OutOfMemory};
 
-/// Events in order, the record after them of the creature that ran, and the codes of the newborns.
+/// Events in order, the record that the creature that ran has after them, and the codes of the newborns.
 #[derive(Drop)]
 pub struct Prepared {
     events: EventList,
@@ -33,7 +33,7 @@ impl Model for Prepared {
     ghost view = { λ p. record { events = p.events; after = p.after; codes = p.codes.items } };
 }
 
-/// So many events are never prepared: a quantum has far fewer.
+/// As many events as this are never prepared; a quantum has far fewer.
 const TOO_MANY: usize = 1 << 31;
 
 impl World {
@@ -166,7 +166,7 @@ fn blocks_of(event: Event) -> u32
     }
 }
 
-// The codes of the newborns. No event has happened yet, so each code is read with the writes before its birth.
+// The codes of the newborns. No event has happened yet, so the writes before a birth are applied to the code read.
 fn newborn_codes(
     alloc: Global,
     running: &Running,
@@ -195,7 +195,7 @@ fn daughter_after(event: Event, held: Option<Block>) -> Option<Block>
     }
 }
 
-// Appends the code of the creature that the event brings, if it brings one, once those before it have happened.
+// If a creature is born in the event, appends the code that it has after the events before.
 fn push_code(
     alloc: Global,
     running: &Running,
@@ -215,7 +215,7 @@ fn push_code(
     Ok(())
 }
 
-// The code that a block has once the events have happened.
+// The code that a block has after the events.
 fn code_after(
     alloc: Global,
     running: &Running,
@@ -234,7 +234,7 @@ fn code_after(
     Ok(code)
 }
 
-// Does the event on a block's code.
+// Applies the event to a block's code.
 fn write_into(code: &mut Code, block: Block, event: Event)
     requires { length code.old ≡ block.size }
     ensures { code.new ≡ written_into block event code.old }

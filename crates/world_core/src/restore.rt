@@ -11,7 +11,7 @@ use tierra_model::{OutOfMemory, Settings};
 use world_state::{Stop, draft_of};
 
 impl World {
-    /// The world of these settings that the bytes tell, where they are all that a sound world is but its settings.
+    /// The sound world with these settings that has these state bytes, if there is one.
     pub fn restore(
         alloc: Global,
         settings: &Settings,
@@ -28,7 +28,7 @@ impl World {
     }
 }
 
-// What is read is told again, so that bytes are taken only as a world writes them.
+// The world that was read is written again, so that bytes are accepted only as a world writes them.
 fn restored(alloc: Global, settings: &Settings, bytes: &[u8]) -> Result<World, Stop>
     ensures some { IfOk result (λ w. AreBytesOf settings.now bytes.now w.world) }
     ensures none { result ≡ Err NoWorld → AreOfNoWorld settings.now bytes.now }

@@ -76,7 +76,7 @@ impl Model for Running {
     ghost invariant = { λ r. AreTied r.settings.soup_size r.population.living r.blocks r.census };
 }
 
-/// How many were born and died, who is born next, and how many quanta have ended.
+/// How many were born and died, the next birth number, and how many quanta have ended.
 #[derive(Clone, Copy, Drop)]
 pub(crate) struct Counts {
     pub(crate) births: u64,
@@ -218,7 +218,7 @@ impl Running {
         self.population.get(id)
     }
 
-    /// The creature at a place of the slicer queue, if there are so many.
+    /// The creature at a place of the slicer queue, if the queue reaches that far.
     pub fn place(&self, k: u32) -> Option<&Creature>
         requires { (id : ℕ) → times_in self.now.world.slicer id ≡ times_in (ids_of self.now.world.living) id }
         ensures { option_copied result ≡ option_map (one_of self.now.world.living) (slice_get self.now.world.slicer k) }
@@ -375,7 +375,7 @@ impl Running {
 
     // ---- room
 
-    /// Makes room for as many births, and for as many blocks taken or given back.
+    /// Makes room for this many births, and for this many blocks taken or given back.
     pub fn reserve(&mut self, births: u32, blocks: u32) -> Result<(), OutOfMemory>
         ensures world { self.new.world ≡ self.old.world }
         ensures ready { KeepsReady self.old self.new }
@@ -401,7 +401,7 @@ impl Running {
         self.soup.ready(at)
     }
 
-    /// The cells as they are now, for good. Afterwards no cell need be ready.
+    /// A lasting version of the cells as they are now. Afterwards no cell need be ready.
     pub fn version(&mut self) -> Result<Version, OutOfMemory>
         ensures world { self.new.world ≡ self.old.world }
         ensures ok { IfOk result (λ v. v ≡ self.old.world.soup) }
@@ -505,7 +505,7 @@ impl Running {
         self.deaths += 1;
     }
 
-    /// Its daughter is born, who cost so much; `code` is what the daughter block has.
+    /// Its daughter is born, at the cost of `ran` and `moved`; `code` is what the daughter block holds.
     pub fn divide(&mut self, ran: u64, moved: u64, code: Code)
         requires within { IsRunning self.old.world }
         requires can { CanHappen self.old.world (event.Divide ran moved) }
@@ -540,7 +540,7 @@ impl Running {
 
     // ---- the end of a turn
 
-    /// The record of the creature whose turn it is, with its registers as they are now.
+    /// Replaces the record of the creature whose turn it is by the one after its instructions.
     pub fn put(&mut self, after: Creature)
         requires within { IsRunning self.old.world }
         requires fits { RecordFits (front self.old.world) after }

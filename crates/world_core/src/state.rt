@@ -1,4 +1,4 @@
-//! All that a world is but its settings, as bytes.
+//! Everything of a world but its settings, as bytes.
 
 ghost use Rattle.std.specs.Prelude.{◌≡◌, ◌++◌, ◌<◌, ◌^◌, All, IfOk, IfSome, OnOk, length, map};
 ghost use Rattle.std.specs.List.{flat_map};
@@ -20,7 +20,7 @@ use tierra_model::{Block, Code, Creature, Effort, OutOfMemory};
 use world_state::Saving;
 
 impl World {
-    /// All that the world is but its settings, as bytes.
+    /// Everything of the world but its settings, as bytes.
     pub fn state_bytes(&self, alloc: Global) -> Result<Code, OutOfMemory>
         ensures bytes { IfOk result (λ code. code ≡ state_bytes self.now.world) }
         ensures world { IfOk result (λ code. AreBytesOf self.now.world.settings code self.now.world) }

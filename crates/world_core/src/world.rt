@@ -86,7 +86,7 @@ impl World {
         self.running.deaths()
     }
 
-    /// The number of who is born next.
+    /// The next birth number.
     pub fn next_birth(&self) -> u64
         ensures { result ≡ self.now.world.next_birth }
     {
@@ -158,7 +158,7 @@ impl World {
         self.running.genotypes().second_effort(genotype)
     }
 
-    /// The cells as they are now, for good.
+    /// A lasting version of the cells as they are now.
     pub fn version(&mut self) -> Result<Version, OutOfMemory>
         ensures world { self.new.world ≡ self.old.world }
         ensures ok { IfOk result (λ v. v ≡ self.old.world.soup) }
@@ -207,7 +207,7 @@ impl Running {
     }
 }
 
-// Puts creatures into a world in which nobody is yet.
+// Puts creatures into an empty world.
 fn inoculate_all(
     alloc: Global,
     running: &mut Running,

@@ -1,4 +1,4 @@
--- Reading so many of a field one after the other, as a loop does.
+-- Reading n of a field one after the other, as a loop does.
 use Rattle.std.proofs.Common.{◌≡◌, ℕ, suc, ◌-◌, ◌+◌, ◌≤◌, ◌<◌, List, [], ◌∷◌, ◌++◌, Option, Some, None, refl, sym, ap, ◌∙◌, append_assoc, append-nil, arith}
 use Rattle.world_state.specs.declared.fields.Stop.{Stop}
 use Rattle.world_state.specs.declared.fields.Stop.TheVariants as stop

@@ -15,7 +15,7 @@ use Rattle.world_state.specs.Reading.{Body, Counts, CreatureParts, Details, Foun
 use Rattle.world_state.specs.Savings.{saving_of}
 use Rattle.world_state.proofs.ReadBack.{Back, Makes, back-both, back-eight, back-four, back-list, back-made, back-piece}
 
--- texts one behind another, in either grouping
+-- texts one after another, in either grouping
 pub grouped-3 : (a b c : List ℕ) → a ++ (b ++ c) ≡ a ++ b ++ c
 grouped-3 a b c = simp append_assoc
 
@@ -34,7 +34,7 @@ Short n = n < 2 ^ 32
 abbrev pub Long : ℕ → Type 0
 Long n = n < 2 ^ 64
 
--- one field behind another, which does not depend on it
+-- one field after another, which does not depend on it
 back-pair : {X Y : Type 0} (P : X → Type 0) (text : X → List ℕ) (first : List ℕ → Option (X × List ℕ))
     (Q : Y → Type 0) (text' : Y → List ℕ) (next : List ℕ → Option (Y × List ℕ))
     → Back P text first → Back Q text' next

@@ -10,11 +10,11 @@ use Rattle.std.proofs.lemmas.Nat.{from_be_bytes-to_be_bytes_4, from_be_bytes-to_
 use Rattle.world_state.specs.StateBytes.{eight, four}
 use Rattle.world_state.specs.Reading.{both, made, list_at, number_at, four_at, eight_at, piece_at}
 
--- a field's text is read as the value that it tells, whatever is behind it
+-- a field's text is read as the value that it tells, whatever is after it
 abbrev pub Back : {X : Type 0} → (X → Type 0) → (X → List ℕ) → (List ℕ → Option (X × List ℕ)) → Type 0
 Back {X = X} P text field = (x : X) (rest : List ℕ) → P x → field (text x ++ rest) ≡ Some (x, rest)
 
--- one field behind another
+-- one field after another
 pub back-both : {X Y : Type 0} (P : X → Type 0) (text : X → List ℕ) (first : List ℕ → Option (X × List ℕ))
     (Q : X → Y → Type 0) (text' : Y → List ℕ) (second : X → List ℕ → Option (Y × List ℕ))
     → Back P text first → ((x : X) → Back (Q x) text' (second x))
@@ -38,7 +38,7 @@ back-made {Y = Y} P text field make Q text' one makes y rest q =
     ap (λ (l : List ℕ). made make field (l ++ rest)) (sym m.text)
     ∙ rw (one m.of rest m.fits) (ap (λ (z : Y). Some (z, rest)) m.makes)
 
--- so many, one behind another
+-- n of them, one after another
 pub back-list : {X : Type 0} (P : X → Type 0) (text : X → List ℕ) (field : List ℕ → Option (X × List ℕ)) → Back P text field
     → (n : ℕ) → Back (λ (xs : List X). (length xs ≡ n) × All P xs) (flat_map text) (list_at field n)
 unfolding list_at

@@ -293,7 +293,7 @@ holds-saving =
 
 -- ---- the whole
 
--- so many after their number, which is in range
+-- a list after its length, which is in range
 counted-fit : {X : Type 0} (Small : ℕ → Type 0) (P : X → Type 0) (p : ℕ × List X) → Small p.0 × ((length p.1 ≡ p.0) × All P p.1)
     → Small (length (second p)) × All P (second p)
 counted-fit Small P p h = (subst Small (sym h.1.0) h.0, h.1.1)

@@ -1,4 +1,4 @@
--- Tests of a world's parts, each of which says what soundness says of them.
+-- Tests of a world's parts, each for a condition of soundness.
 use Rattle.std.specs.List.{flat_map, list_all}
 use Rattle.std.specs.Prelude.{Bool, List, None, Option, Some, [], false, if◌then◌else◌, length, nat_le, nat_lt, option_to_list, slice_index_or, true, ℕ, ◌&&◌, ◌+◌, ◌==◌, ◌^◌, ◌∷◌}
 use Rattle.tierra_model.specs.declared.limits.TheConstants.{MOST_SIZE}
@@ -49,13 +49,13 @@ is_genotype limit f = is_code f.code && nat_le f.total limit && is_effort f.firs
 abbrev pub is_saving : ℕ → Saving → Bool
 is_saving quanta s = nat_le s.quantum quanta && is_effort s.first_effort && is_effort s.second_effort
 
--- ---- tests that go along a list, with a state
+-- ---- tests that walk a list with a state
 
 unfoldable pub passes : {S X : Type 0} → (S → X → Option S) → S → List X → Bool
 passes step s [] = true
 passes step s (x ∷ xs) = elim (step s x) [ None ↦ false | Some t ↦ passes step t xs ]
 
--- a creature's number is at least what those before it ask, and below the next one
+-- a creature's number is above those of the creatures before it, and below the next birth number
 abbrev pub number_step : ℕ → ℕ → Creature → Option ℕ
 number_step next low c = if nat_le low c.id && nat_lt c.id next then Some (c.id + 1) else None
 
@@ -67,31 +67,31 @@ is_parent k (Some p) = nat_lt p k
 abbrev pub parent_step : ℕ → Found → Option ℕ
 parent_step k f = if is_parent k f.parent then Some (k + 1) else None
 
--- a saving is not of an earlier quantum
+-- a saving is not of an earlier quantum than the one before it
 abbrev pub rising_step : ℕ → Saving → Option ℕ
 rising_step q s = if nat_le q s.quantum then Some s.quantum else None
 
--- for what is past the end of a list
+-- stands in for an element past the end of a list
 abbrev pub no_found : Found
 no_found =
     record { code = []; parent = None; first_quantum = 0; total = 0; first_effort = None; second_effort = None }
 
--- whether there ever were so many of genotype k
+-- whether genotype k ever had save_at creatures or more
 abbrev pub reaches : ℕ → List Found → ℕ → Bool
 reaches total founds k = nat_le total (slice_index_or founds k no_found).total
 
 abbrev pub no_saving : Saving
 no_saving = record { genotype = 0; quantum = 0; first_effort = None; second_effort = None }
 
--- what a saving counts for, in the size of its quantum
+-- what a saving adds to the size of its quantum
 abbrev pub saving_size : List Found → Saving → ℕ
 saving_size founds s = length (slice_index_or founds s.genotype no_found).code + 100
 
--- what is counted of a saving's quantum with it, after a quantum and what was counted of that
+-- the size of the saving's quantum up to and with it; run is the quantum of the saving before, and its size so far
 abbrev pub counted : List Found → ℕ × ℕ → Saving → ℕ
 counted founds run s = (if s.quantum == run.0 then run.1 else 0) + saving_size founds s
 
--- the savings of a quantum, which follow each other, stay below 2 ^ 30 in all
+-- the savings of a quantum, which are consecutive, stay below 2 ^ 30 in total
 abbrev pub size_step : List Found → ℕ × ℕ → Saving → Option (ℕ × ℕ)
 size_step founds run s =
     if nat_lt (counted founds run s) (2 ^ 30) then Some (s.quantum, counted founds run s) else None
@@ -105,7 +105,7 @@ blocks_of c = c.own ∷ option_to_list c.daughter
 abbrev pub blocks_in : List Creature → List Block
 blocks_in living = flat_map blocks_of living
 
--- how many of the blocks have the cell
+-- how many of the blocks contain the cell
 abbrev pub covers : List Block → ℕ → ℕ
 covers bs p = sum_of (λ b. one_if (is_in b p)) bs
 
@@ -113,9 +113,9 @@ covers bs p = sum_of (λ b. one_if (is_in b p)) bs
 abbrev pub apart_step : ℕ → Block → Option ℕ
 apart_step end b = if nat_le end b.at then Some (b.at + b.size) else None
 
--- ---- genotypes put in again
+-- ---- genotypes entered again
 
--- genotype k with an effort for daughter number bred, where there is one
+-- the genotypes after genotype k gets an effort for daughter number bred, if there is one
 abbrev pub noted : ℕ → ℕ → Option Effort → List Genotype → List Genotype
 noted k bred None gs = gs
 noted k bred (Some e) gs = with_effort_of k bred e gs

@@ -1,4 +1,4 @@
--- What the code has of a creature and of a world, in the order in which it is read.
+-- The parts of a creature and of a world as the code holds them, turned into pairs in the order of reading.
 use Rattle.std.specs.Prelude.{ℕ}
 use Rattle.world_state.specs.declared.draft.Parts.{Parts}
 use Rattle.world_state.specs.declared.fields.Body.{Body}

@@ -1,4 +1,4 @@
--- Reading from left to right: each field is a value and the bytes after it, or there is none.
+-- Reading from left to right: a field gives a value and the bytes after it, or nothing.
 use Rattle.std.specs.Int.{Width, byte_len, cast_signed, from_be_bytes, w32, w64}
 use Rattle.std.specs.Prelude.{Bool, List, None, Option, Result, Ok, Err, Some, [], drop, false, if◌then◌else◌, length, map, nat_le, slice_index_or, suc, take, true, zero, ℕ, ℤ, ◌-◌, ◌==◌, ◌∷◌, ◌≡◌}
 use Rattle.tierra_model.specs.declared.creatures.Block.{Block}
@@ -10,7 +10,7 @@ use Rattle.world_state.specs.declared.fields.Stop.{Stop}
 use Rattle.world_state.specs.declared.fields.Stop.TheVariants as stop
 use Rattle.world_state.specs.declared.saving.Saving.{Saving}
 
--- what a function returned, seen by view, is what reading gives, unless memory ran out
+-- the result of a function, under view, is what reading gives, unless memory ran out
 abbrev pub Stops : {Y : Type 0} → Stop → Option Y → Type 0
 Stops stop.NoMemory read = Unit {0}
 Stops stop.NoWorld read = read ≡ None
@@ -19,7 +19,7 @@ abbrev pub Gives : {X Y : Type 0} → (X → Y) → Result X Stop → Option Y �
 Gives view (Ok x) read = read ≡ Some (view x)
 Gives view (Err e) read = Stops e read
 
--- the value, where the test passes
+-- the value, if the test passes
 abbrev pub only_if : {X : Type 0} → Bool → X → Option X
 only_if true x = Some x
 only_if false x = None
@@ -29,7 +29,7 @@ abbrev pub ◌>>=◌ : {A B : Type 0} → Option A → (A → Option B) → Opti
 (Some x) >>= f = f x
 None >>= f = None
 
--- one field behind another, which may depend on it
+-- two fields in turn, the second of which may depend on the first
 abbrev pub both : {X Y : Type 0} → (List ℕ → Option (X × List ℕ)) → (X → List ℕ → Option (Y × List ℕ)) → List ℕ
     → Option ((X × Y) × List ℕ)
 both first second bytes = do
@@ -37,13 +37,13 @@ both first second bytes = do
   y ← second x.0 x.1
   Some ((x.0, y.0), y.1)
 
--- a field that is made of another
+-- a field whose value is made from that of another
 abbrev pub made : {X Y : Type 0} → (X → Y) → (List ℕ → Option (X × List ℕ)) → List ℕ → Option (Y × List ℕ)
 made make field bytes = do
   x ← field bytes
   Some (make x.0, x.1)
 
--- so many of a field, one behind another
+-- a field read n times, one after another
 unfoldable pub list_at : {X : Type 0} → (List ℕ → Option (X × List ℕ)) → ℕ → List ℕ → Option (List X × List ℕ)
 list_at field zero bytes = Some ([], bytes)
 list_at field (suc n) bytes = do
@@ -75,7 +75,7 @@ eights_at bytes = both eight_at (λ _. eight_at) bytes
 unfoldable pub four_eights_at : List ℕ → Option (((ℕ × ℕ) × (ℕ × ℕ)) × List ℕ)
 four_eights_at bytes = both eights_at (λ _. eights_at) bytes
 
--- a size in four bytes, and as many bytes
+-- a size in four bytes, and then that many bytes
 unfoldable pub sized_at : List ℕ → Option ((ℕ × List ℕ) × List ℕ)
 sized_at bytes = both four_at piece_at bytes
 
@@ -211,7 +211,7 @@ saving_from p = record { genotype = p.0.0; quantum = p.0.1; first_effort = p.1.0
 unfoldable pub saving_at : List ℕ → Option (Saving × List ℕ)
 saving_at bytes = made saving_from (both eights_at (λ _. efforts_at)) bytes
 
--- the genotype that was found
+-- the genotype that was read
 abbrev pub genotype_of : Found → Genotype
 genotype_of f =
     record {

@@ -1,4 +1,4 @@
--- When bytes are those of a sound world.
+-- When bytes are the state bytes of a sound world.
 use Rattle.std.specs.Int.{w32}
 use Rattle.std.specs.Prelude.{All, FitsSigned, IfSome, List, Option, length, ℕ, ◌<◌, ◌^◌, ◌≡◌}
 use Rattle.tierra_model.specs.declared.creatures.Creature.{Creature}
@@ -24,7 +24,7 @@ IsLongEffort o = IfSome o (λ (e : Effort). (e.ran < 2 ^ 64) × (e.moved < 2 ^ 6
 abbrev pub HasLongNumbers : Genotype → Type 0
 HasLongNumbers g = (g.first_quantum < 2 ^ 64) × IsLongEffort g.first_effort × IsLongEffort g.second_effort
 
--- What the types of Rust give, and soundness does not.
+-- The bounds that Rust's types give, and soundness does not.
 pub record FitsTypes (w : World) : Type 0 where
   pub creatures : All HasWords w.living
   pub living : length w.living < 2 ^ 32
@@ -39,10 +39,10 @@ pub record AreBytesOf (chosen : Settings) (told : List ℕ) (w : World) : Type 0
   pub types : FitsTypes w
   pub bytes : state_bytes w ≡ told
 
--- the bytes are those of some sound world of the settings
+-- the bytes are those of some sound world with the settings
 abbrev pub IsStateOf : Settings → List ℕ → Type 0
 IsStateOf chosen told = (w : World) × AreBytesOf chosen told w
 
--- no sound world of the settings has the bytes
+-- no sound world with the settings has the bytes
 abbrev pub AreOfNoWorld : Settings → List ℕ → Type 0
 AreOfNoWorld chosen told = (w : World) → AreBytesOf chosen told w → ⊥

@@ -1,4 +1,4 @@
--- What was saved, as a world has it.
+-- The savings, as a world of the definitions has them.
 use Rattle.std.specs.Prelude.{List, map}
 use Rattle.tierra_model.specs.World.{Saving as ModelSaving}
 use Rattle.world_state.specs.declared.saving.Saving.{Saving}

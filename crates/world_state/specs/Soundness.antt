@@ -1,4 +1,4 @@
--- Soundness in parts, each of which is tested by itself.
+-- Soundness in parts, each tested by itself.
 use Rattle.std.specs.Prelude.{All, List, length, nat_le, ℕ, ◌+◌, ◌<◌, ◌^◌, ◌≡◌, ◌≤◌}
 use Rattle.tierra_model.specs.declared.limits.TheConstants.{MOST_QUANTA}
 use Rattle.tierra_model.specs.declared.creatures.Creature.{Creature}
@@ -17,7 +17,7 @@ pub record HasCounts (w : World) : Type 0 where
   pub genotype_count : length w.genotypes < w.next_birth
   pub living_and_dead : length w.living + w.deaths + 1 ≡ w.next_birth
 
--- the creatures, in a soup of n cells, with so many genotypes
+-- the creatures, in a soup of n cells, with that number of genotypes
 pub record AreLiving (n count next limit : ℕ) (living : List Creature) : Type 0 where
   pub ordered : Ordered 1 (ids_of living)
   pub numbers : All (λ c. (1 ≤ c.id) × (c.id < next)) living
@@ -58,11 +58,11 @@ HasReaper w = AreSame w.reaper (ids_of w.living)
 abbrev pub IsApart : World → Type 0
 IsApart w = (p : ℕ) → owners w.living p ≤ 1
 
--- no two have the same code
+-- no two genotypes have the same code
 abbrev pub AreCodedOnce : List Genotype → Type 0
 AreCodedOnce genotypes = (code : List ℕ) → times_coded genotypes code ≤ 1
 
--- just those are saved, each once, of which there ever were so many
+-- the genotypes that ever had save_at creatures or more are saved once each, and no others
 abbrev pub AreDue : ℕ → List Genotype → List Saving → Type 0
 AreDue save_at genotypes saved =
     (k : ℕ) → times_in (numbers_of saved) k ≡ one_if (nat_le save_at (genotype_at genotypes k).total)

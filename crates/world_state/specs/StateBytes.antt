@@ -1,4 +1,4 @@
--- All that a world is but its settings, as bytes. Numbers have the greatest byte first.
+-- Everything of a world but its settings, as bytes. Numbers are big-endian.
 use Rattle.std.specs.Int.{cast_unsigned, to_be_bytes, w32, w64}
 use Rattle.std.specs.List.{flat_map}
 use Rattle.std.specs.Prelude.{List, None, Option, Some, [], length, map, ℕ, ℤ, ◌++◌, ◌+◌, ◌∷◌}
@@ -21,12 +21,12 @@ register_bytes v = to_be_bytes w32 (cast_unsigned w32 v)
 unfoldable pub block_bytes : Block → List ℕ
 block_bytes b = four b.at ++ four b.size
 
--- 0 and 0 for none: no block has the size 0
+-- 0 and 0 for no block, since no block has size 0
 unfoldable pub daughter_bytes : Option Block → List ℕ
 daughter_bytes None = four 0 ++ four 0
 daughter_bytes (Some b) = four b.at ++ four b.size
 
--- 0 and 0 for none: no effort has run nothing
+-- 0 and 0 for no effort, since every effort ran at least one instruction
 unfoldable pub effort_bytes : Option Effort → List ℕ
 effort_bytes None = eight 0 ++ eight 0
 effort_bytes (Some e) = eight e.ran ++ eight e.moved
@@ -49,7 +49,7 @@ count_bytes c = eight c.errors ++ eight c.genotype ++ eight c.ran ++ eight c.bre
 unfoldable pub creature_bytes : Creature → List ℕ
 creature_bytes c = body_bytes c ++ processor_bytes c ++ count_bytes c
 
--- a parent is one more than its number, and 0 is none
+-- a parent is written as its number plus one, and no parent as 0
 unfoldable pub parent_bytes : Option ℕ → List ℕ
 parent_bytes None = eight 0
 parent_bytes (Some p) = eight (p + 1)
@@ -73,7 +73,7 @@ counts_bytes w = (eight w.quanta ++ eight w.births) ++ (eight w.deaths ++ eight 
 unfoldable pub living_bytes : World → List ℕ
 living_bytes w = four (length w.living) ++ flat_map creature_bytes (map (one_of w.living) w.slicer)
 
--- birth numbers, from the top; they are as many as live
+-- birth numbers from the top of the queue, one for each of the living
 unfoldable pub reaper_bytes : World → List ℕ
 reaper_bytes w = flat_map eight w.reaper
 

@@ -1,4 +1,4 @@
-//! Whether the parts of a world are those of a sound one.
+//! Whether the parts of a world are sound.
 
 ghost use Rattle.std.specs.Prelude.{◌≡◌, ◌≤◌, ◌<◌, ◌^◌, ◌↔◌, ℕ, All, ◌++◌, IfOk, IsTrue, OnOk, length, nat_lt};
 ghost use Rattle.std.specs.List.{list_all};
@@ -15,7 +15,7 @@ use crate::saving::Saving;
 use std::alloc::Global;
 use tierra_model::{Block, Code, Creature, Effort, MOST_SIZE, OutOfMemory};
 
-/// Less than this is saved of a quantum.
+/// The savings of a quantum have less than this size.
 const MOST: u64 = 1 << 30;
 
 // ---- cells and codes
@@ -94,14 +94,14 @@ pub fn have_counts(limit: u64, living: &[Creature]) -> bool
     living.iter().all(|creature| has_counts(limit, creature))
 }
 
-/// Whether each creature's genotype is one of so many.
+/// Whether each creature's genotype is one of `count`.
 pub fn have_genotypes(count: u64, living: &[Creature]) -> bool
     ensures { result ≡ list_all (λ c. nat_lt c.genotype count) living.now }
 {
     living.iter().all(|creature| creature.genotype < count)
 }
 
-/// Whether the birth numbers rise, from 1 at the least, and are below the next one.
+/// Whether the birth numbers rise, start at 1 or more, and are below the next birth number.
 pub fn are_numbered(next_birth: u64, living: &[Creature]) -> bool
     ensures { result ≡ passes (number_step next_birth) 1 living.now }
 {
@@ -135,7 +135,7 @@ fn is_genotype(limit: u64, found: &Found) -> bool
         && is_effort(found.second_effort)
 }
 
-/// Whether each genotype has a code and counts that a world of this limit allows.
+/// Whether each genotype has a code and counts that a world with this limit allows.
 pub fn are_genotypes(limit: u64, founds: &[Found]) -> bool
     ensures { result ≡ list_all (is_genotype limit) founds.now }
 {
@@ -192,7 +192,7 @@ pub fn are_rising(saved: &[Saving]) -> bool
     true
 }
 
-/// Whether the savings of each quantum stay below 2^30 in all, each counted as the length of its code and 100 more.
+/// Whether the savings of each quantum stay below 2^30 in total, each counted as the length of its code plus 100.
 pub fn have_sizes(founds: &[Found], saved: &[Saving]) -> bool
     requires few { All (λ f. length f.code ≤ MOST_SIZE) founds.now }
     requires known { All (λ s. s.genotype < length founds.now) saved.now }
@@ -210,7 +210,7 @@ pub fn have_sizes(founds: &[Found], saved: &[Saving]) -> bool
     true
 }
 
-// What is counted of a saving's quantum with it, after a quantum and what was counted of that.
+// The size of the saving's quantum up to and with it, where the saving before is of `quantum`, with `sum` so far.
 fn counted(founds: &[Found], quantum: u64, sum: u64, saving: Saving) -> u64
     requires few { All (λ f. length f.code ≤ MOST_SIZE) founds.now }
     requires known { saving.genotype < length founds.now }
@@ -233,7 +233,7 @@ fn saving_size(founds: &[Found], saving: Saving) -> u64
 
 // ---- numbers that are the same
 
-/// Whether the numbers are those of a list in order, each as often.
+/// Whether the numbers are those of a sorted list, each as often.
 pub fn are_same(alloc: Global, numbers: &[u64], ordered: &[u64]) -> Result<bool, OutOfMemory>
     requires { Ordered 0 ordered.now }
     ensures { IfOk result (λ same. IsTrue same ↔ AreSame numbers.now ordered.now) }
@@ -257,7 +257,7 @@ fn are_equal(left: &[u64], right: &[u64]) -> bool
     left == right
 }
 
-/// The numbers of the genotypes of which there ever were so many, in order.
+/// The numbers of the genotypes that ever had this many creatures or more, in order.
 pub fn numbers_reaching(
     alloc: Global,
     founds: &[Found],
@@ -317,7 +317,7 @@ fn sorted_blocks(blocks: Vec<Block>) -> Result<Vec<Block>, OutOfMemory>
     Ok(sorted)
 }
 
-// Whether each block begins where those before it have ended.
+// Whether no block begins before those before it have ended.
 fn follow(size: u32, blocks: &[Block]) -> bool
     requires { All (IsBlock size) blocks.now }
     ensures { result ≡ passes apart_step 0 blocks.now }

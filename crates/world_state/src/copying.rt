@@ -5,7 +5,7 @@ ghost use Rattle.std.specs.Prelude.{◌≡◌, IfOk};
 use std::alloc::Global;
 use tierra_model::{Code, OutOfMemory};
 
-/// A code of its own.
+/// A copy of a code.
 pub fn copied(alloc: Global, code: &Code) -> Result<Code, OutOfMemory>
     ensures { IfOk result (λ copy. copy ≡ code.now) }
 {

@@ -1,4 +1,4 @@
-//! A world as its bytes tell it, of which it is not known that it is sound.
+//! A world as read from its bytes, which need not be sound.
 
 ghost use Rattle.std.specs.Prelude.{◌≡◌, Err, IfOk};
 ghost use Rattle.std.specs.List.Sorted.{IsNonDecreasingBy, IsPermutation};
@@ -16,7 +16,7 @@ use std::alloc::Global;
 use std::marker::Model;
 use tierra_model::{Creature, OutOfMemory, Settings};
 
-/// All that makes a world, as it was read. The living are in the order of their birth numbers.
+/// All parts of a world, as they were read. The living are in the order of their birth numbers.
 #[derive(Drop)]
 pub struct Draft {
     pub settings: Settings,
@@ -63,7 +63,7 @@ impl Model for Draft {
         × ((id : ℕ) → times_in d.slicer.items id ≡ times_in (ids_of d.living.items) id) };
 }
 
-/// The world that the bytes tell, if they tell any.
+/// The world that the bytes spell, if they spell one.
 pub fn draft_of(alloc: Global, settings: &Settings, bytes: &[u8]) -> Result<Draft, Stop>
     ensures settings { IfOk result (λ d. d.settings ≡ settings.now) }
     ensures fits { IfOk result (λ d. FitsTypes d) }
@@ -88,7 +88,7 @@ pub fn draft_of(alloc: Global, settings: &Settings, bytes: &[u8]) -> Result<Draf
     })
 }
 
-// What the bytes have, one behind another. The living are in the order of the slicer queue.
+// The parts in the order of the bytes. The living are in the order of the slicer queue.
 #[derive(Drop)]
 struct Parts {
     cells: Vec<u8>,

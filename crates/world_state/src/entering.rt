@@ -1,4 +1,4 @@
-//! Genotypes put in again as they were found.
+//! Enters genotypes again as they were read.
 
 ghost use Rattle.std.specs.Prelude.{◌≡◌, ◌<◌, ◌++◌, ◌∷◌, [], All, IfNone, IfOk, IfSome, None, length};
 ghost use Rattle.tierra_model.specs.Individuals.{genotype_number};
@@ -13,7 +13,7 @@ use genotyper::Genotypes;
 use std::alloc::Global;
 use tierra_model::{Code, Effort, OutOfMemory};
 
-/// The genotypes that were found, where no two have the same code.
+/// The genotypes that were read, no two of which have the same code.
 pub fn genotypes_from(alloc: Global, founds: &[Found]) -> Result<Option<Genotypes>, OutOfMemory>
     requires { All (λ f. IsCode f.code) founds.now }
     ensures some { IfOk result (λ o. IfSome o (λ g. g.genotypes ≡ genotypes_of founds.now)) }
@@ -32,7 +32,7 @@ pub fn genotypes_from(alloc: Global, founds: &[Found]) -> Result<Option<Genotype
     Ok(Some(genotypes))
 }
 
-// Puts a genotype behind all others, with what was found of it.
+// Appends a genotype with the counts and efforts that were read.
 fn enter(genotypes: &mut Genotypes, code: Code, found: &Found)
     requires room { 0 < genotypes.old.spare }
     requires code { code ≡ found.now.code }

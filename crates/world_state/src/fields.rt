@@ -1,4 +1,4 @@
-//! The fields of a world's bytes, read from the front of what is left.
+//! The fields of a world's bytes, each read from the front of what is left.
 
 ghost use Rattle.std.specs.Prelude.{◌≡◌, List, Option, ℕ};
 ghost use Rattle.world_state.specs.Parts.{body_parts, counts_parts, processor_parts, registers_parts, stack_parts};
@@ -9,11 +9,11 @@ use crate::saving::Saving;
 use std::alloc::{AllocError, AllocFailed, Global};
 use tierra_model::{Block, Code, Creature, Effort};
 
-/// Why no world is read.
+/// Why no world was read.
 #[derive(Clone, Copy, Debug, Drop, PartialEq, Eq)]
 pub enum Stop {
     NoMemory,
-    /// The bytes are those of none.
+    /// The bytes are those of no world.
     NoWorld,
 }
 
@@ -33,7 +33,7 @@ impl<T: Drop> From<AllocFailed<T>> for Stop {
     }
 }
 
-/// A genotype as it is found in the bytes.
+/// A genotype as it was read from the bytes.
 #[derive(Debug, Drop)]
 pub struct Found {
     pub code: Code,
@@ -44,7 +44,7 @@ pub struct Found {
     pub second_effort: Option<Effort>,
 }
 
-/// What stands in the bytes, one behind another.
+/// What can be read from the front of bytes.
 pub trait Field: Sized {
     // the value that bytes begin with, and the bytes after it
     ghost at: { List ℕ → Option (Self × List ℕ) };
@@ -81,7 +81,7 @@ pub fn eight_of(bytes: &[u8]) -> Result<(u64, &[u8]), Stop>
     Ok((number, rest))
 }
 
-// So many bytes.
+// The first `size` bytes.
 fn piece_of(size: usize, bytes: &[u8]) -> Result<(&[u8], &[u8]), Stop>
     ensures { Gives (λ x. (x.0.now, x.1.now)) result (piece_at size bytes.now) }
 {
@@ -127,7 +127,7 @@ pub fn four_eights_of(bytes: &[u8]) -> Result<(u64, u64, u64, u64, &[u8]), Stop>
     Ok((a, b, c, d, rest))
 }
 
-/// A size in four bytes, and as many bytes.
+/// A size in four bytes, and then that many bytes.
 #[tactic(auto, unfolding(crate::specs::Reading::sized_at))]
 pub fn sized_of(bytes: &[u8]) -> Result<(u32, &[u8], &[u8]), Stop>
     ensures { Gives (λ x. ((x.0, x.1.now), x.2.now)) result (sized_at bytes.now) }
@@ -145,7 +145,7 @@ impl Field for u64 {
     }
 }
 
-/// So many of a field.
+/// A field read `count` times.
 pub fn list_of<F: Field + Drop>(
     alloc: Global,
     count: u64,
@@ -165,7 +165,7 @@ pub fn list_of<F: Field + Drop>(
 
 // ---- creatures
 
-// The parts of a creature, as they stand one behind another.
+// The parts of a creature, in the order of their bytes.
 #[derive(Clone, Copy, Drop, Debug)]
 struct Body {
     id: u64,

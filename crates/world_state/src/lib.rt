@@ -1,4 +1,4 @@
-//! The bytes of a world, what they tell when they are read again, and whether that is a sound world.
+//! The bytes of a world, reading them back, and whether what they spell is a sound world.
 #![tactic(auto)]
 
 mod checks;

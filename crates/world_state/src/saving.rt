@@ -2,7 +2,7 @@
 
 use tierra_model::Effort;
 
-/// A genotype that was saved, in which quantum, and the efforts that it had then.
+/// A saved genotype: its number, the quantum in which it was saved, and the efforts that it had then.
 #[derive(Clone, Copy, Drop, Debug)]
 pub struct Saving {
     pub genotype: u64,

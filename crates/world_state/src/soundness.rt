@@ -1,4 +1,4 @@
-//! Whether what bytes tell is a sound world.
+//! Whether the world read from bytes is sound.
 
 ghost use Rattle.std.specs.Prelude.{◌≡◌, ◌≤◌, ◌<◌, ◌↔◌, All, IfOk, IsTrue, length};
 ghost use Rattle.tierra_model.specs.Living.{ids_of};
@@ -93,7 +93,7 @@ impl Draft {
         Ok(due)
     }
 
-    // Whether what each quantum saved is not too large.
+    // Whether the savings of no quantum are too large.
     fn has_sizes(&self) -> bool
         requires parts { HasParts self.now }
         requires matched { IsMatched self.now }
@@ -103,7 +103,7 @@ impl Draft {
     }
 }
 
-// What the counts may come to.
+// The limit of the counts after this many quanta.
 fn limit_of(quanta: u64) -> u64
     requires { quanta ≤ MOST_QUANTA }
     ensures { result ≡ count_limit quanta }
@@ -162,7 +162,7 @@ fn are_coded_once(alloc: Global, founds: &[Found]) -> Result<bool, OutOfMemory>
     }
 }
 
-// Whether just those are saved, each once, of which there ever were so many.
+// Whether the genotypes that ever had `save_at` creatures or more are saved once each, and no others.
 fn are_due(
     alloc: Global,
     save_at: u32,

@@ -1,6 +1,6 @@
-//! The bytes of a small world, worked by hand, are read and judged, and so are these bytes with a change.
+//! The bytes of a small world, written by hand, are read and checked for soundness, as are these bytes with changes.
 
-ghost use Rattle.std.specs.Prelude.{◌≡◌, IfOk};
+ghost use Rattle.std.specs.Prelude.{IfOk};
 ghost use Rattle.tierra_model.specs.Ranges.{IsCode};
 
 use crate::{Stop, blocks_in, draft_of};
@@ -78,7 +78,7 @@ fn small_world(alloc: Global) -> Result<Vec<u8>, OutOfMemory> {
     Ok(bytes)
 }
 
-// Whether the small world is sound with two of its bytes changed, or nothing where these tell none.
+// Whether the small world with two of its bytes changed is sound, or nothing if the bytes spell no world.
 fn judged(
     alloc: Global,
     first: (usize, u8),

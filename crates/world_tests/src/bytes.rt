@@ -1,4 +1,4 @@
-//! A small world is told as bytes, and restored from them; and what becomes of these bytes when one of them is changed.
+//! A small world is written as bytes and restored from them, also after one of the bytes was changed.
 
 use crate::looks::{
     SMALL, cell_of, counts_of, genotypes_of, restored, small_bytes, start_of, told_again,
@@ -56,7 +56,7 @@ fn read_of(alloc: Global, setup: &Setup, bytes: &[u8]) -> Result<Draft, Fail> {
     }
 }
 
-/// Whether the bytes tell no world.
+/// Whether the bytes spell no world.
 fn tells_none(alloc: Global, setup: &Setup, bytes: &[u8]) -> bool {
     draft_of(alloc, &setup.settings, bytes).err() == Some(Stop::NoWorld)
 }
@@ -84,12 +84,12 @@ fn has_one_in_line(draft: &Draft) -> bool {
     draft.slicer.as_slice() == [1].as_slice() && draft.reaper.as_slice() == [1].as_slice()
 }
 
-/// Whether the creature that it tells first is this one.
+/// Whether the first of the living in the draft is this creature.
 fn tells_first(draft: &Draft, front: &Creature) -> bool {
     draft.living.first() == Some(front)
 }
 
-/// What the bytes of the small world tell.
+/// What is read from the bytes of the small world.
 fn small_draft(alloc: Global) -> Result<Draft, Fail> {
     let setup = setup_of(alloc, SMALL)?;
     let bytes = small_bytes(alloc)?;
@@ -176,7 +176,7 @@ fn bytes_are_of_one_soup_size(rt: HostRuntime) -> Result<(), Fail> {
     Ok(())
 }
 
-/// The same as `told_again` of the bytes with one of them changed.
+/// The result of `told_again` for the bytes with one of them changed.
 fn told_changed(
     alloc: Global,
     setup: &Setup,

@@ -16,7 +16,7 @@ pub(crate) fn start_of(alloc: Global, setup: &Setup) -> Result<World, OutOfMemor
     World::start(alloc, setup)
 }
 
-/// The world after so many quanta of a setup.
+/// The world after this many quanta of a setup.
 pub(crate) fn run_of(alloc: Global, setup: &Setup, quanta: u16) -> Result<World, OutOfMemory> {
     run_serial(alloc, setup, u64::from(quanta))
 }
@@ -32,7 +32,7 @@ pub(crate) fn small_bytes(alloc: Global) -> Result<Vec<u8>, Fail> {
     Ok(bytes_of(alloc, &world)?)
 }
 
-/// The world that has the bytes, if any has.
+/// The world with these bytes, if there is one.
 pub(crate) fn restored(
     alloc: Global,
     setup: &Setup,
@@ -80,7 +80,7 @@ fn tells(alloc: Global, world: &World, bytes: &[u8]) -> Result<bool, OutOfMemory
     Ok(bytes_of(alloc, world)?.as_slice() == bytes)
 }
 
-/// Whether a world that is restored from the bytes tells them again, or nothing where they are of no world.
+/// Whether the world restored from the bytes has the same bytes again, or nothing if they spell no world.
 pub(crate) fn told_again(
     alloc: Global,
     setup: &Setup,

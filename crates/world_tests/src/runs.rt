@@ -42,7 +42,7 @@ fn weight_of(world: &World) -> u64 {
     weight
 }
 
-/// The line and the weight of the world after so many quanta of a soup file.
+/// The line and the weight of the world after this many quanta of a soup file.
 fn run_file(alloc: Global, file: &str, quanta: u16) -> Result<(String, u64), Fail> {
     let world = run_of(alloc, &setup_of(alloc, file)?, quanta)?;
     Ok((line_of(alloc, &world)?, weight_of(&world)))
@@ -56,7 +56,7 @@ fn efforts_of(world: &World) -> (Option<Effort>, Option<Effort>) {
     (world.first(0), world.second(0))
 }
 
-/// The line of the world after so many quanta, and what the first and the second daughter cost.
+/// The line of the world after this many quanta, and what the first and the second daughter cost.
 fn bred(
     alloc: Global,
     setup: &Setup,
@@ -118,7 +118,7 @@ fn the_ancestor_breeds(rt: HostRuntime) -> Result<(), Fail> {
     Ok(())
 }
 
-/// A soup file, how many quanta it runs, and what comes of it.
+/// A soup file, how many quanta it runs, and the expected result.
 const DEATHS: [(&str, u16, &str); 5] = [
     // nobody else is left, and there is no room
     (
@@ -147,7 +147,7 @@ code = "nop_1 nop_1 nop_1 nop_1 nop_1 nop_1 nop_1 nop_1 nop_1 nop_1"
         1,
         "births 0 deaths 1 living 1 filled 74 front 1 ip 25 ax 10 bx 0 cx 64 dx 0 flag 0 errors 0",
     ),
-    // the other creature dies, and then there is no room still
+    // the other creature dies, and then there is still no room
     (
         r#"
 soup_size = 100
@@ -214,9 +214,9 @@ fn room_is_made_by_deaths(rt: HostRuntime) -> Result<(), Fail> {
     Ok(())
 }
 
-/// Settings and a code at cell 0, and what comes of one quantum, worked by hand from the first draws of quantum 1: the
-/// flaws 1 and -1, the flips of bits 4 and 1 in copies, and the flip of bit 0 of cell 24505. The last number is that of
-/// the cells.
+/// Settings and a code at cell 0, and the result of one quantum, worked out by hand from the first draws of quantum 1:
+/// the flaws 1 and -1, the flips of bits 4 and 1 in copies, and the flip of bit 0 of cell 24505. The last number is
+/// that of the cells.
 const FIRST_DRAWS: [(&str, &str, &str, u64); 4] = [
     (
         "soup_size = 100\nslice_size = 2\nflaw_rate = 1",
@@ -256,7 +256,7 @@ fn the_first_draws_are_worked_by_hand(rt: HostRuntime) -> Result<(), Fail> {
     Ok(())
 }
 
-/// A soup file of 101 cells with a creature of so many inc_a at cell 0, whose slice goes by its size.
+/// A soup file of 101 cells with a creature of this many inc_a at cell 0, whose slice goes by its size.
 fn counters(alloc: Global, size: u16, parts: &str) -> Result<String, Fail> {
     let mut file = format!(in alloc; "soup_size = 101\nslice_by_size = true\n{parts}\n")?;
     file.push_str("[[creature]]\nat = 0\ncode = '")?;
@@ -292,8 +292,8 @@ fn a_slice_by_size_has_bounds(rt: HostRuntime) -> Result<(), Fail> {
     Ok(())
 }
 
-/// Settings of the ancestor's run in a soup of 500 cells, how many quanta it runs, and what comes of it; the last number is
-/// that of the cells.
+/// Settings of the ancestor's run in a soup of 500 cells, how many quanta it runs, and the expected result; the last
+/// number is that of the cells.
 const DRAWN: [(&str, u16, &str, u64); 8] = [
     (
         "flaw_rate = 1",
@@ -359,7 +359,7 @@ fn draws_change_a_run(rt: HostRuntime) -> Result<(), Fail> {
     Ok(())
 }
 
-/// Settings of the ancestor's run, and what 20,000 quanta come to.
+/// Settings of the ancestor's run, and the result of 20,000 quanta.
 const FULL: [(&str, &str, u64); 2] = [
     (
         "soup_size = 500",
@@ -389,7 +389,7 @@ fn a_full_soup_goes_on(rt: HostRuntime) -> Result<(), Fail> {
 const MUTATING: &str =
     "soup_size = 500\nsave_at = 1\nback_rate = 40\ncopy_rate = 50\nflaw_rate = 100";
 
-/// Whether the world after so many quanta is restored from its bytes, and tells them again.
+/// Whether the world after this many quanta is restored from its bytes, and has the same bytes again.
 fn is_restored_after(alloc: Global, setup: &Setup, quanta: u16) -> Result<bool, OutOfMemory> {
     let world = run_of(alloc, setup, quanta)?;
     let bytes = bytes_of(alloc, &world)?;

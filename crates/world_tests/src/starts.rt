@@ -1,4 +1,4 @@
-//! A world begins, its first group is told, and it is taken through a quantum in which nothing happens.
+//! A world begins, its first group is read, and it goes through a quantum in which nothing happens.
 
 ghost use Rattle.std.specs.Prelude.{◌≡◌, [], IfOk};
 ghost use Rattle.tierra_model.specs.Ranges.{IsCode};
@@ -69,7 +69,7 @@ fn no_events(alloc: Global) -> EventList
     }
 }
 
-/// A quantum in which nothing happens, which fits a sound world.
+/// A quantum in which nothing happens. It fits a sound world.
 fn turn(alloc: Global, world: &mut World) -> Result<(), OutOfMemory> {
     let _sound = world.settings();
     if world.quanta() == 0 {
@@ -93,13 +93,13 @@ fn groups_from(alloc: Global, world: &World, k: u64) -> Result<Groups, OutOfMemo
     world.groups_from(alloc, k)
 }
 
-/// The groups that the small world tells from a place on.
+/// The groups of the small world from a place on.
 fn small_groups(alloc: Global, k: u64) -> Result<Groups, Fail> {
     let world = start_of(alloc, &setup_of(alloc, SMALL)?)?;
     Ok(groups_from(alloc, &world, k)?)
 }
 
-/// Whether it is the first genotype of two cells, which nobody had a daughter of.
+/// Whether it is the first genotype of two cells, with no parent and no efforts.
 fn is_first(saved: &Saved) -> bool {
     saved.name == Name { size: 2, rank: 0 }
         && saved.parent.is_none()

@@ -23,7 +23,7 @@ pub fn registers(creature: &Creature) -> (i32, i32, i32, i32) {
     (creature.ax, creature.bx, creature.cx, creature.dx)
 }
 
-/// A creature as it is born, of ten cells.
+/// A newborn creature of ten cells.
 pub fn newborn() -> Creature
     ensures { result.errors ≡ 0 }
 {
@@ -73,7 +73,7 @@ fn settings(flaw_rate: u32, copy_rate: u32) -> Settings
     }
 }
 
-/// Lays the codes from the creature's `ip` on and one code at another place, and executes so many instructions. The
+/// Lays the codes from the creature's `ip` on and one code at another place, and executes this many instructions. The
 /// draws are the rates of flaws and of flips in copies, and the number of the first instruction. Gives the last act,
 /// and the soup.
 pub fn run(

@@ -16,7 +16,7 @@ fn code(rt: &impl Abort, alloc: Global, cells: &[u8]) -> Result<Code, OutOfMemor
     Ok(Code { items })
 }
 
-/// Tells that the totals are small.
+/// Checks that the totals are small.
 fn check_totals(rt: &impl Abort, genotypes: &Genotypes)
     ensures { All (λ g. g.total < 2 ^ 60) genotypes.now.genotypes }
 {

@@ -9,4 +9,4 @@ pub returns-clause-worked : goal.returns-clause-worked
 returns-clause-worked g c =
     let gave = c.give-seat.ensures in
     turn_worked c.args.seat c.give-seat.result c.take-turn.result.0 _ _ _ c.take-turn.ensures.seat c.take-turn.ensures.seen c.serve-job.ensures.committed
-    gave.lock gave.caller gave.turns gave.seen gave.last gave.own gave.others
+    gave.seat.lock gave.seat.caller gave.turns gave.seen gave.seat.last gave.own gave.others

@@ -1,10 +1,9 @@
-use Rattle.std.proofs.Common.{◌∙◌, ap, arith, inl, sym}
+use Rattle.std.proofs.Common.{◌∙◌, ap, arith, sym}
 use Rattle.std.proofs.lemmas.Result.{err_from_is_err_and}
 use Rattle.soup_checkpoint.specs.declared.owner.Owner.{Owner}
 use Rattle.soup_hold.specs.Text.{held_quanta}
 use Rattle.soup_hold.proofs.Settled.{first_settings}
-use Rattle.soup_hold.proofs.Together.{all_small, all_told_then, begun_quietly, beyond_unwritten, cut_short_then, is_beyond, part_told_then, refused_then, went_on_unrefused, whole_time}
-use Rattle.soup_hold.proofs.Stopping.{unless_telling}
+use Rattle.soup_hold.proofs.Together.{begun_quietly, done_then, stopped_attaching, stopped_beyond, stopped_then, went_on_unrefused, whole_time}
 use Rattle.soup_hold.proofs.Whole.{beginning_time}
 use Rattle.soup_hold.proofs.holding.hold.Goals as goal
 
@@ -17,21 +16,17 @@ returns-in_err-shelf-clause-moments g c held first disk is =
     beginning_time c.args.setup.now held first (held_quanta c.args.every first.quanta c.args.quanta) (g.D.Desk.state c.args.desk.now)
     (g.D.Desk.state c.begin.new.desk) disk c.begin.ensures.moments
 
-pub returns-in_err-shelf-clause-unfinished : goal.returns-in_err-shelf-clause-unfinished
-returns-in_err-shelf-clause-unfinished g c =
+pub returns-in_err-shelf-clause-stopped : goal.returns-in_err-shelf-clause-stopped
+returns-in_err-shelf-clause-stopped g c =
     let stop = err_from_is_err_and c.from_residual.result c.from_residual.ensures.1 in
-    rw stop.1 (unless_telling stop.0 _ (inl c.begin.ensures.moments.told))
+    rw (stop.1, stop.2) (stopped_attaching c.args.setup.now c.args.quanta c.args.every (g.D.Desk.state c.args.desk.now)
+    (g.D.Desk.state c.begin.new.desk) c.in_err-shelf.field-0.0 c.begin.ensures.moments.told c.in_err-shelf.ensures.refused)
 
-pub returns-then-held-quanta-clause-refused : goal.returns-then-held-quanta-clause-refused
-returns-then-held-quanta-clause-refused g c =
-    is_beyond c.args.setup.now c.args.quanta c.args.every (g.D.Desk.state c.args.desk.now) (g.D.Desk.state c.begin.new.desk) c.in_ok-shelf.shelf
+pub returns-then-held-quanta-clause-stopped : goal.returns-then-held-quanta-clause-stopped
+returns-then-held-quanta-clause-stopped g c =
+    stopped_beyond c.args.setup.now c.args.quanta c.args.every (g.D.Desk.state c.args.desk.now) (g.D.Desk.state c.begin.new.desk) c.in_ok-shelf.shelf
     c.in_ok-shelf.world.world c.in_ok-shelf.ensures.begun c.quanta-held.result c.quanta-held.ensures (omega (arith, c.if-held-quanta.true))
-
-pub returns-then-held-quanta-clause-unwritten : goal.returns-then-held-quanta-clause-unwritten
-returns-then-held-quanta-clause-unwritten g c early =
-    beyond_unwritten c.args.setup.now c.args.quanta c.args.every (g.D.Desk.state c.args.desk.now) (g.D.Desk.state c.begin.new.desk) c.in_ok-shelf.shelf
-    c.in_ok-shelf.world.world c.in_ok-shelf.ensures.begun c.quanta-held.result c.quanta-held.ensures (omega (arith, c.if-held-quanta.true))
-    c.in_ok-shelf.ensures.kept
+    c.begin.ensures.moments.told c.in_ok-shelf.ensures.kept
 
 pub returns-then-held-quanta-clause-quiet : goal.returns-then-held-quanta-clause-quiet
 returns-then-held-quanta-clause-quiet g c =
@@ -47,33 +42,18 @@ hold_from-requires-clause-settings g c =
     first_settings c.args.setup.now (g.D.Desk.state c.args.desk.now).reads c.in_ok-shelf.world.world c.in_ok-shelf.ensures.begun.goes_on
     ∙ sym (ap (λ (o : Owner). o.settings) c.in_ok-shelf.ensures.begun.owner_is)
 
-pub returns-clause-told : goal.returns-clause-told
-returns-clause-told g c =
-    all_told_then c.args.setup.now c.args.quanta c.args.every (g.D.Desk.state c.args.desk.now) (g.D.Desk.state c.begin.new.desk) c.in_ok-shelf.shelf
+pub returns-clause-done : goal.returns-clause-done
+returns-clause-done g c =
+    done_then c.args.setup.now c.args.quanta c.args.every (g.D.Desk.state c.args.desk.now) (g.D.Desk.state c.begin.new.desk) c.in_ok-shelf.shelf
+    c.in_ok-shelf.world.world c.in_ok-shelf.ensures.begun c.hold_from.result (g.D.Desk.state c.hold_from.new.desk)
+    (omega (arith, c.if-held-quanta.false, c.quanta-held.ensures)) c.begin.ensures.moments.told c.hold_from.ensures.told c.hold_from.ensures.small
+
+pub returns-clause-stopped : goal.returns-clause-stopped
+returns-clause-stopped g c =
+    stopped_then c.args.setup.now c.args.quanta c.args.every (g.D.Desk.state c.args.desk.now) (g.D.Desk.state c.begin.new.desk) c.in_ok-shelf.shelf
     c.in_ok-shelf.world.world c.in_ok-shelf.ensures.begun c.hold_from.result (g.D.Desk.state c.hold_from.new.desk)
     (omega (arith, c.if-held-quanta.false, c.quanta-held.ensures)) c.begin.ensures.moments.told c.hold_from.ensures.told
-
-pub returns-clause-partly : goal.returns-clause-partly
-returns-clause-partly g c =
-    part_told_then c.args.setup.now c.args.quanta c.args.every (g.D.Desk.state c.args.desk.now) (g.D.Desk.state c.begin.new.desk) c.in_ok-shelf.shelf
-    c.in_ok-shelf.world.world c.in_ok-shelf.ensures.begun c.hold_from.result (g.D.Desk.state c.hold_from.new.desk)
-    (omega (arith, c.if-held-quanta.false, c.quanta-held.ensures)) c.begin.ensures.moments.told c.hold_from.ensures.told
-
-pub returns-clause-unfinished : goal.returns-clause-unfinished
-returns-clause-unfinished g c =
-    cut_short_then c.args.setup.now c.args.quanta c.args.every (g.D.Desk.state c.args.desk.now) (g.D.Desk.state c.begin.new.desk) c.in_ok-shelf.shelf
-    c.in_ok-shelf.world.world c.in_ok-shelf.ensures.begun c.hold_from.result (g.D.Desk.state c.hold_from.new.desk)
-    (omega (arith, c.if-held-quanta.false, c.quanta-held.ensures)) c.begin.ensures.moments.told c.hold_from.ensures.unfinished
-
-pub returns-clause-small : goal.returns-clause-small
-returns-clause-small g c =
-    all_small c.args.setup.now c.args.quanta c.args.every (g.D.Desk.state c.args.desk.now) (g.D.Desk.state c.begin.new.desk) c.in_ok-shelf.shelf
-    c.in_ok-shelf.world.world c.in_ok-shelf.ensures.begun c.hold_from.result c.hold_from.ensures.small
-
-pub returns-clause-refused : goal.returns-clause-refused
-returns-clause-refused g c =
-    refused_then c.args.setup.now c.args.quanta c.args.every (g.D.Desk.state c.args.desk.now) (g.D.Desk.state c.begin.new.desk) c.in_ok-shelf.shelf
-    c.in_ok-shelf.world.world c.in_ok-shelf.ensures.begun c.hold_from.result c.hold_from.ensures.large
+    c.hold_from.ensures.unfinished c.hold_from.ensures.large
 
 pub returns-clause-quiet : goal.returns-clause-quiet
 returns-clause-quiet g c =

@@ -1,4 +1,4 @@
-use Rattle.std.proofs.Common.{rules, ◌≡◌, ◌++◌, [], refl, sym, subst, append-nil, List, ℕ, IfSome}
+use Rattle.std.proofs.Common.{◌∙◌, ◌≡◌, ◌++◌, [], refl, sym, subst, append-nil, List, ℕ, IfSome}
 use Rattle.std.proofs.lemmas.Result.{err_from_is_err_and}
 use Rattle.report_text.specs.Bank.{saved_lines}
 use Rattle.desk_io.specs.Desk.{Appended, AppendedSome, Elapses, Tells}
@@ -25,9 +25,9 @@ reported g c =
     let had = c.args.bank in
     let run = run_groups c.args.setup c.args.quanta in
     let kept = c.in_ok-report.ensures in
-    let all = kept.completed in
+    let all = kept.completed.1 in
     let report = run_report c.args.setup c.args.quanta in
-    let text : c.deref.result.now ≡ report = search rules in
+    let text : c.deref.result.now ≡ report = c.deref.ensures.value ∙ c.report.view_is ∙ c.in_ok-report.ensures.completed.0 in
     let tells = subst (λ (l : List ℕ). Tells mid new l c.tell.result) text c.tell.ensures.call.tells in
     let first = lines-time old mid had.digest had.groups run old.told report c.run_with_crew.ensures.moments in
     let last = report-time mid new had.digest had.groups run old.told report all.at_rest all.settled.durable all.fits kept.told.all tells in
@@ -39,24 +39,19 @@ returns-in_err-report-clause-moments g c =
     (run_groups c.args.setup c.args.quanta) (g.D.Desk.state c.args.desk.now).told (run_report c.args.setup c.args.quanta)
     c.run_with_crew.ensures.moments
 
-pub returns-in_err-report-clause-unfinished : goal.returns-in_err-report-clause-unfinished
-returns-in_err-report-clause-unfinished g c =
+pub returns-in_err-report-clause-told : goal.returns-in_err-report-clause-told
+returns-in_err-report-clause-told g c =
     let before = (g.D.Desk.state c.args.desk.now).told in
     let lines = saved_lines (run_groups c.args.setup c.args.quanta) in
     let report = run_report c.args.setup c.args.quanta in
     let stop = err_from_is_err_and c.from_residual.result c.from_residual.ensures.1 in
+    let part = c.in_err-report.ensures.told.partly in
     let less = lines_alone before (g.D.Desk.state c.run_with_crew.new.desk).told lines report
-    (report_has_bytes c.args.setup c.args.quanta) c.in_err-report.ensures.told.partly in
-    rw stop.1 (unless_telling stop.0 _ less)
-
-pub returns-in_err-report-clause-told : goal.returns-in_err-report-clause-told
-returns-in_err-report-clause-told g c =
-    let old = g.D.Desk.state c.args.desk.now in
-    let lines = saved_lines (run_groups c.args.setup c.args.quanta) in
-    let report = run_report c.args.setup c.args.quanta in
-    let whole = lines ++ report in
-    let stop = err_from_is_err_and c.from_residual.result c.from_residual.ensures.1 in
-    rw stop.1 (record { all = tt; partly = piece_begun lines report refl (none_told whole old.told) c.in_err-report.ensures.told.partly })
+    (report_has_bytes c.args.setup c.args.quanta) part in
+    rw stop.1 (record {
+      told = record { all = tt; partly = piece_begun lines report refl (none_told (lines ++ report) before) part };
+      unfinished = unless_telling stop.0 _ less;
+    })
 
 pub returns-in_err-tell-clause-told : goal.returns-in_err-tell-clause-told
 returns-in_err-tell-clause-told g c =
@@ -66,11 +61,14 @@ returns-in_err-tell-clause-told g c =
     let lines = saved_lines (run_groups c.args.setup c.args.quanta) in
     let report = run_report c.args.setup c.args.quanta in
     let whole = lines ++ report in
-    let text : c.deref.result.now ≡ report = search rules in
+    let text : c.deref.result.now ≡ report = c.deref.ensures.value ∙ c.report.view_is ∙ c.in_ok-report.ensures.completed.0 in
     let kept = piece_told lines report refl (none_told whole before) c.in_ok-report.ensures.told.all in
     let part = subst (λ (l : List ℕ). AppendedSome mid l now) text c.in_err-tell.ensures.call.tells.text.partly in
     let stop = err_from_is_err_and c.from_residual-in_err-tell.result c.from_residual-in_err-tell.ensures.1 in
-    rw stop.1 (record { all = tt; partly = piece_begun report [] (sym (append-nil report)) kept part })
+    rw (stop.1, stop.2) (record {
+      told = record { all = tt; partly = piece_begun report [] (sym (append-nil report)) kept part };
+      unfinished = tt;
+    })
 
 pub returns-in_err-tell-clause-moments : goal.returns-in_err-tell-clause-moments
 returns-in_err-tell-clause-moments g c = reported g (goal.at.returns-in_err-tell-clause-moments g c).After-tell
@@ -85,7 +83,7 @@ pub returns-clause-completed : goal.returns-clause-completed
 returns-clause-completed g c =
     let state = g.D.Desk.state in
     Completes-untouched c.args.bank (run_groups c.args.setup c.args.quanta) (state c.args.desk.now) (state c.run_with_crew.new.desk) (state c.tell.new.self)
-    c.in_ok-report.ensures.completed c.tell.ensures.call.tells.untouched c.in_ok-tell.ensures.call.ok
+    c.in_ok-report.ensures.completed.1 c.tell.ensures.call.tells.untouched c.in_ok-tell.ensures.call.ok
 
 pub returns-clause-kept : goal.returns-clause-kept
 returns-clause-kept g c = λ k first.
@@ -104,7 +102,7 @@ returns-clause-told g c =
     let lines = saved_lines (run_groups c.args.setup c.args.quanta) in
     let report = run_report c.args.setup c.args.quanta in
     let whole = lines ++ report in
-    let text : c.deref.result.now ≡ report = search rules in
+    let text : c.deref.result.now ≡ report = c.deref.ensures.value ∙ c.report.view_is ∙ c.in_ok-report.ensures.completed.0 in
     let kept = piece_told lines report refl (none_told whole before) c.in_ok-report.ensures.told.all in
     let all = piece_told report [] (sym (append-nil report)) kept (subst (λ (l : List ℕ). Appended mid l now) text c.in_ok-tell.ensures.call.tells.text.all) in
-    record { all = all_told whole before now all; partly = tt }
+    record { told = record { all = all_told whole before now all; partly = tt }; unfinished = tt }

@@ -1,4 +1,4 @@
-use Rattle.std.proofs.Common.{refl, ℕ, List, length, OnOk}
+use Rattle.std.proofs.Common.{refl, ℕ, List, length, IfOk, OnOk, Result, Ok, Err}
 use Rattle.std.specs.Prelude.{IfErr}
 use Rattle.bank_journal.specs.Bank.{BankState}
 use Rattle.bank_journal.proofs.Times.{for_file}
@@ -6,6 +6,7 @@ use Rattle.desk_io.specs.Desk.{Elapses}
 use Rattle.desk_io.proofs.Time.{Elapses-none, KeepsDisk-none}
 use Rattle.report_text.specs.Bank.{saved_lines}
 use Rattle.soup_top.specs.Handing.{HasStopped, HasTaken}
+use Rattle.soup_top.specs.declared.stop.RunStop.{RunStop}
 use Rattle.soup_top.specs.Keeping.{IsKeeping}
 use Rattle.soup_top.specs.Sources.{run_groups}
 use Rattle.soup_top.proofs.Handed.{end_completes, end_counts, end_differs, end_kept, end_time, end_told, took_none}
@@ -45,11 +46,17 @@ returns-in_default-clause-told g c = record {
   partly = as_told (none_told (saved_lines (run_groups c.args.setup c.args.quanta)) (g.D.Desk.state c.args.desk.now).told);
 }
 
-pub returns-clause-report : goal.returns-clause-report
-returns-clause-report g c = rw (c.of.ensures) at c.keep_book.ensures.report
+-- what holds of the answer, and what holds besides
+with_it : {T : Type 0} (r : Result T RunStop) (P : T → Type 0) (Q : Type 0) → IfOk r P → OnOk r Q → IfOk r (λ x. P x × Q)
+with_it (Ok x) P Q p q = (p, q)
+with_it (Err s) P Q p q = tt
 
 pub returns-clause-completed : goal.returns-clause-completed
-returns-clause-completed g c = end_completes c.args.bank (run_groups c.args.setup c.args.quanta) (g.D.Desk.state c.args.desk.now) (g.D.Desk.state c.keep_book.new.desk) c.keep_book.result (took g (goal.at.returns-clause-completed g c).After-keep_book)
+returns-clause-completed g c =
+    let w = (goal.at.returns-clause-completed g c).After-keep_book in
+    with_it c.keep_book.result _ _ (rw (c.of.ensures) at c.keep_book.ensures.report)
+    (end_completes c.args.bank (run_groups c.args.setup c.args.quanta) (g.D.Desk.state c.args.desk.now) (g.D.Desk.state c.keep_book.new.desk)
+    c.keep_book.result (took g w))
 
 pub returns-clause-differs : goal.returns-clause-differs
 returns-clause-differs g c = end_differs c.args.bank (run_groups c.args.setup c.args.quanta) (g.D.Desk.state c.args.desk.now) (g.D.Desk.state c.keep_book.new.desk) c.keep_book.result (stopped g (goal.at.returns-clause-differs g c).After-keep_book)

@@ -1,66 +1,63 @@
-use Rattle.std.proofs.Common.{◌≡◌, ◌⊎◌, inl, inr, refl, sym, subst, ℕ, List, Option, take, Result, Ok, Err}
-use Rattle.std.specs.Prelude.{IfErr, OnErr}
-use Rattle.std.proofs.lemmas.Result.{IfErr-weaker}
-use Rattle.desk_io.specs.Desk.{Appended, AppendedSome}
-use Rattle.soup_hold.specs.Holding.{AppendedLess}
-use Rattle.soup_top.specs.Sources.{run_text}
-use Rattle.soup_top.specs.Stops.{UnlessTelling}
-use Rattle.soup_top.specs.Tasks.{IsCutShortFor, IsTextFor}
+use Rattle.std.proofs.Common.{◌≡◌, sym, subst, Result, IfErr, OnOk}
+use Rattle.desk_io.specs.Desk.{DeskState}
 use Rattle.soup_top.specs.declared.asking.Task.{Task}
-use Rattle.soup_top.specs.declared.asking.Task.TheVariants as task
 use Rattle.soup_top.specs.declared.stop.RunStop.{RunStop}
-use Rattle.soup_top.proofs.Unfinished.{still_unless}
+use Rattle.soup_top.specs.Ending.{HasMomentsFor, IsDoneFor, IsStoppedFor}
 use Rattle.soup_top.proofs.top.carry_out.Goals as goal
 
-partly_told : (r : Result (Unit {0}) RunStop) (t other : Task) (file before now : Option (List ℕ)) (text : List ℕ) → t ≡ other
-    → IsTextFor other file text → OnErr r (AppendedSome before text now)
-    → OnErr r ((now ≡ before) ⊎ ((told : List ℕ) × (k : ℕ) × IsTextFor t file told × Appended before (take k told) now))
-partly_told (Ok x) t other file before now text is tells partly = tt
-partly_told (Err s) t other file before now text is tells partly =
-    inr (text, partly.0, subst (λ (x : Task). IsTextFor x file text) (sym is) tells, partly.1)
+-- what one task leaves is what the other leaves, which it is
+done_as : (t other : Task) (old new : DeskState) (r : Result (Unit {0}) RunStop) → t ≡ other → OnOk r (IsDoneFor other old new)
+    → OnOk r (IsDoneFor t old new)
+done_as t other old new r is done = subst (λ (x : Task). OnOk r (IsDoneFor x old new)) (sym is) done
 
-cut_short : (r : Result (Unit {0}) RunStop) (t other : Task) (file before now : Option (List ℕ)) (text : List ℕ) → t ≡ other
-    → IsTextFor other file text → IfErr r (λ s. UnlessTelling s (AppendedLess before text now))
-    → IfErr r (λ s. UnlessTelling s (IsCutShortFor t file before now))
-cut_short r t other file before now text is tells less =
-    IfErr-weaker r (λ s. UnlessTelling s (AppendedLess before text now)) (λ s. UnlessTelling s (IsCutShortFor t file before now))
-    (λ s l. still_unless s _ _ (λ k. inr (text, subst (λ (x : Task). IsTextFor x file text) (sym is) tells, k)) l) less
+stopped_as : (t other : Task) (old new : DeskState) (r : Result (Unit {0}) RunStop) → t ≡ other → IfErr r (IsStoppedFor other old new)
+    → IfErr r (IsStoppedFor t old new)
+stopped_as t other old new r is stopped = subst (λ (x : Task). IfErr r (IsStoppedFor x old new)) (sym is) stopped
 
--- where nothing was told before it stopped
-untold_short : (r : Result (Unit {0}) RunStop) (t : Task) (file before now : Option (List ℕ))
-    → IfErr r (λ s. UnlessTelling s (now ≡ before)) → IfErr r (λ s. UnlessTelling s (IsCutShortFor t file before now))
-untold_short r t file before now less =
-    IfErr-weaker r (λ s. UnlessTelling s (now ≡ before)) (λ s. UnlessTelling s (IsCutShortFor t file before now))
-    (λ s l. still_unless s _ _ (λ same. inl same) l) less
+moments_as : (t other : Task) (old new : DeskState) → t ≡ other → HasMomentsFor other old new → HasMomentsFor t old new
+moments_as t other old new is moments = subst (λ (x : Task). HasMomentsFor x old new) (sym is) moments
 
-pub returns-in-Bank-clause-unfinished : goal.returns-in-Bank-clause-unfinished
-returns-in-Bank-clause-unfinished g c =
-    let old = g.D.Desk.state c.args.desk.now in
-    untold_short c.tell_bank.result c.args.task old.reads old.told (g.D.Desk.state c.tell_bank.new.desk).told c.tell_bank.ensures.unfinished
+pub returns-in-Run-clause-done : goal.returns-in-Run-clause-done
+returns-in-Run-clause-done g c =
+    done_as _ _ (g.D.Desk.state c.args.desk.now) (g.D.Desk.state c.run.new.desk) c.run.result c.in-Run.is c.run.ensures.done
 
-pub returns-in-Watch-clause-unfinished : goal.returns-in-Watch-clause-unfinished
-returns-in-Watch-clause-unfinished g c =
-    let old = g.D.Desk.state c.args.desk.now in
-    untold_short c.watch_and_tell.result c.args.task old.reads old.told (g.D.Desk.state c.watch_and_tell.new.desk).told
-    c.watch_and_tell.ensures.unfinished
+pub returns-in-Run-clause-stopped : goal.returns-in-Run-clause-stopped
+returns-in-Run-clause-stopped g c =
+    stopped_as _ _ (g.D.Desk.state c.args.desk.now) (g.D.Desk.state c.run.new.desk) c.run.result c.in-Run.is c.run.ensures.stopped
 
-pub returns-in-Hold-clause-unfinished : goal.returns-in-Hold-clause-unfinished
-returns-in-Hold-clause-unfinished g c =
-    let old = g.D.Desk.state c.args.desk.now in
-    let now = (g.D.Desk.state c.hold_and_tell.new.desk).told in
-    subst (λ (t : Task). IfErr c.hold_and_tell.result (λ s. UnlessTelling s (IsCutShortFor t old.reads old.told now))) (sym c.in-Hold.is)
-    c.hold_and_tell.ensures.unfinished
+pub returns-in-Run-clause-moments : goal.returns-in-Run-clause-moments
+returns-in-Run-clause-moments g c =
+    moments_as _ _ (g.D.Desk.state c.args.desk.now) (g.D.Desk.state c.run.new.desk) c.in-Run.is c.run.ensures.moments
 
-pub returns-in-Run-clause-unfinished : goal.returns-in-Run-clause-unfinished
-returns-in-Run-clause-unfinished g c =
-    let old = g.D.Desk.state c.args.desk.now in
-    let setup = c.in-Run.setup in
-    cut_short c.run.result c.args.task (task.Run setup c.in-Run.quanta c.in-Run.workers) old.reads old.told
-    (g.D.Desk.state c.run.new.desk).told (run_text setup c.in-Run.quanta) c.in-Run.is refl c.run.ensures.unfinished
+pub returns-in-Bank-clause-done : goal.returns-in-Bank-clause-done
+returns-in-Bank-clause-done g c =
+    done_as _ _ (g.D.Desk.state c.args.desk.now) (g.D.Desk.state c.tell_bank.new.desk) c.tell_bank.result c.in-Bank.is c.tell_bank.ensures.done
 
-pub returns-in-Run-clause-partly : goal.returns-in-Run-clause-partly
-returns-in-Run-clause-partly g c =
-    let old = g.D.Desk.state c.args.desk.now in
-    let setup = c.in-Run.setup in
-    partly_told c.run.result c.args.task (task.Run setup c.in-Run.quanta c.in-Run.workers) old.reads old.told
-    (g.D.Desk.state c.run.new.desk).told (run_text setup c.in-Run.quanta) c.in-Run.is refl c.run.ensures.told.partly
+pub returns-in-Bank-clause-stopped : goal.returns-in-Bank-clause-stopped
+returns-in-Bank-clause-stopped g c =
+    stopped_as _ _ (g.D.Desk.state c.args.desk.now) (g.D.Desk.state c.tell_bank.new.desk) c.tell_bank.result c.in-Bank.is
+    c.tell_bank.ensures.stopped
+
+pub returns-in-Watch-clause-done : goal.returns-in-Watch-clause-done
+returns-in-Watch-clause-done g c =
+    done_as _ _ (g.D.Desk.state c.args.desk.now) (g.D.Desk.state c.watch_and_tell.new.desk) c.watch_and_tell.result c.in-Watch.is
+    c.watch_and_tell.ensures.done
+
+pub returns-in-Watch-clause-stopped : goal.returns-in-Watch-clause-stopped
+returns-in-Watch-clause-stopped g c =
+    stopped_as _ _ (g.D.Desk.state c.args.desk.now) (g.D.Desk.state c.watch_and_tell.new.desk) c.watch_and_tell.result c.in-Watch.is
+    c.watch_and_tell.ensures.stopped
+
+pub returns-in-Hold-clause-done : goal.returns-in-Hold-clause-done
+returns-in-Hold-clause-done g c =
+    done_as _ _ (g.D.Desk.state c.args.desk.now) (g.D.Desk.state c.hold_and_tell.new.desk) c.hold_and_tell.result c.in-Hold.is
+    c.hold_and_tell.ensures.done
+
+pub returns-in-Hold-clause-stopped : goal.returns-in-Hold-clause-stopped
+returns-in-Hold-clause-stopped g c =
+    stopped_as _ _ (g.D.Desk.state c.args.desk.now) (g.D.Desk.state c.hold_and_tell.new.desk) c.hold_and_tell.result c.in-Hold.is
+    c.hold_and_tell.ensures.stopped
+
+pub returns-in-Hold-clause-moments : goal.returns-in-Hold-clause-moments
+returns-in-Hold-clause-moments g c =
+    moments_as _ _ (g.D.Desk.state c.args.desk.now) (g.D.Desk.state c.hold_and_tell.new.desk) c.in-Hold.is c.hold_and_tell.ensures.moments

@@ -6,7 +6,7 @@ use Rattle.tierra_model.specs.World.{World}
 use Rattle.soup_watch.specs.declared.sight.Sight.{Sight}
 use Rattle.soup_watch.proofs.looking.sight_in.Goals as goal
 
--- the serial world after so many quanta has them
+-- the serial world after that quantum has them
 pub returns-clause-quanta : goal.returns-clause-quanta
 returns-clause-quanta c =
     let book = c.args.book.now in

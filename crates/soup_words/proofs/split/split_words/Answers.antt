@@ -5,7 +5,8 @@ use Rattle.clap.proofs.WalkLemmas.{first_value-rows}
 use Rattle.clap.proofs.OnLiterals.{clap_on_literals}
 use Rattle.clap.specs.Simple.{App, HasMatchesOf}
 use Rattle.clap.specs.declared.parser.matches.ArgMatches.{ArgMatches}
-use Rattle.soup_words.specs.Split.{tierra_app, given}
+use Rattle.std.specs.Prelude.{codes}
+use Rattle.soup_words.specs.Split.{given, split_of, tierra_app}
 use Rattle.soup_words.proofs.split.split_words.Goals as goal
 
 is_free : is_simple_and_free tierra_app ≡ true
@@ -28,26 +29,28 @@ taken_is app words is none = sym (ap (λ (a : App). fault_of a words) is) ∙ no
 pub returns-clause-taken : goal.returns-clause-taken
 returns-clause-taken c = taken_is _ _ c.in-Ok.ensures c.in-Ok-try_get_matches_from.ensures.kinds
 
-pub returns-clause-action : goal.returns-clause-action
-returns-clause-action c = given_is _ _ _ _ _ c.in-Ok.ensures c.in-Ok-try_get_matches_from.ensures.matches c.get_str.ensures
+-- the texts of all names together
+all_given : (words : List Text) (action quanta workers number every looks isles epochs : Option Text)
+    → action ≡ given words (codes "action") → quanta ≡ given words (codes "quanta") → workers ≡ given words (codes "workers")
+    → number ≡ given words (codes "number") → every ≡ given words (codes "every") → looks ≡ given words (codes "looks")
+    → isles ≡ given words (codes "isles") → epochs ≡ given words (codes "epochs")
+    → record {
+      action = action;
+      quanta = quanta;
+      workers = workers;
+      number = number;
+      every = every;
+      looks = looks;
+      isles = isles;
+      epochs = epochs;
+    } ≡ split_of words
+all_given words action quanta workers number every looks isles epochs a q w n e l i p = cc
 
-pub returns-clause-quanta : goal.returns-clause-quanta
-returns-clause-quanta c = given_is _ _ _ _ _ c.in-Ok.ensures c.in-Ok-try_get_matches_from.ensures.matches c.get_str-2.ensures
-
-pub returns-clause-workers : goal.returns-clause-workers
-returns-clause-workers c = given_is _ _ _ _ _ c.in-Ok.ensures c.in-Ok-try_get_matches_from.ensures.matches c.get_str-3.ensures
-
-pub returns-clause-number : goal.returns-clause-number
-returns-clause-number c = given_is _ _ _ _ _ c.in-Ok.ensures c.in-Ok-try_get_matches_from.ensures.matches c.get_str-4.ensures
-
-pub returns-clause-every : goal.returns-clause-every
-returns-clause-every c = given_is _ _ _ _ _ c.in-Ok.ensures c.in-Ok-try_get_matches_from.ensures.matches c.get_str-5.ensures
-
-pub returns-clause-looks : goal.returns-clause-looks
-returns-clause-looks c = given_is _ _ _ _ _ c.in-Ok.ensures c.in-Ok-try_get_matches_from.ensures.matches c.get_str-6.ensures
-
-pub returns-clause-isles : goal.returns-clause-isles
-returns-clause-isles c = given_is _ _ _ _ _ c.in-Ok.ensures c.in-Ok-try_get_matches_from.ensures.matches c.get_str-7.ensures
-
-pub returns-clause-epochs : goal.returns-clause-epochs
-returns-clause-epochs c = given_is _ _ _ _ _ c.in-Ok.ensures c.in-Ok-try_get_matches_from.ensures.matches c.get_str-8.ensures
+pub returns-clause-split : goal.returns-clause-split
+returns-clause-split c =
+    let from = c.in-Ok.ensures in
+    let has = c.in-Ok-try_get_matches_from.ensures.matches in
+    all_given _ _ _ _ _ _ _ _ _ (given_is _ _ _ _ _ from has c.get_str.ensures) (given_is _ _ _ _ _ from has c.get_str-2.ensures)
+    (given_is _ _ _ _ _ from has c.get_str-3.ensures) (given_is _ _ _ _ _ from has c.get_str-4.ensures)
+    (given_is _ _ _ _ _ from has c.get_str-5.ensures) (given_is _ _ _ _ _ from has c.get_str-6.ensures)
+    (given_is _ _ _ _ _ from has c.get_str-7.ensures) (given_is _ _ _ _ _ from has c.get_str-8.ensures)

@@ -61,11 +61,9 @@ returns g c =
     let now = given_views _ _ _ _ _ _ _ mirrors commits _ growth_is c.args.value _ _ _ _ c.exchange-slot.ensures.3 c.fetch_add.ensures.2 c.fetch_add-2.ensures.2 (sym c.into_badge.ensures.2) in
     let table : c.turn.inside.table_seat.table_id ≡ c.into_badge.result.table_id = search rules in
     let back = given_back_as _ _ _ _ _ c.turn.view_is (λ k. seat_of (table k) (view_of (sym now k))) (given_back _ _ _ _ _ _ _ mirrors commits _ growth_is c.turn.inside.table_seat.table_id) in record {
-      lock = back.lock;
-      caller = back.caller;
+      seat = record { lock = back.lock; caller = back.caller; last = back.last };
       turns = back.turns;
       seen = back.seen;
-      last = back.last;
       own = back.own;
       others = back.others;
     }

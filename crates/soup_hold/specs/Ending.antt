@@ -1,0 +1,28 @@
+-- What a run with checkpoints leaves when it is done, and when it stops.
+use Rattle.std.specs.Prelude.{IfSome, List, Some, take, ℕ, ◌≡◌, ◌⊎◌}
+use Rattle.desk_io.specs.Desk.{Appended, DeskState}
+use Rattle.file_journal.specs.Steps.{IsUnwritten}
+use Rattle.soup_checkpoint.specs.declared.faults.HoldFault.{HoldFault}
+use Rattle.soup_hold.specs.declared.stop.HoldStop.{HoldStop}
+use Rattle.soup_hold.specs.Holding.{CanHold, IsCutShort, IsEarly, IsHoldText, RefusesHold}
+use Rattle.soup_hold.specs.Stops.{IfRefused, UnlessTelling}
+use Rattle.tierra_model.specs.Setups.{SetupFields}
+
+-- It is done: its whole text was told, and none of its states was too large.
+pub record IsDone (setup : SetupFields) (n every : ℕ) (old new : DeskState) : Type 0 where
+  pub told : (text : List ℕ) × IsHoldText setup n every old.reads text × Appended old.told text new.told
+  pub small : IfSome old.reads (λ file. CanHold setup n every (Some file))
+
+-- The file was refused for this reason. If that came before any state was appended, nothing was told, and where the
+-- contents of the desk's file are known, it was not written.
+pub record IsRefused (setup : SetupFields) (n every : ℕ) (old new : DeskState) (f : HoldFault) : Type 0 where
+  pub reason : RefusesHold setup n every old.reads f
+  pub untold : IsEarly f → new.told ≡ old.told
+  pub unwritten : IsEarly f → IfSome old.reads (λ file. IsUnwritten old new)
+
+-- It stopped: nothing was told or the first bytes of its text, and not all of them unless a tell failed.
+pub record IsStopped (setup : SetupFields) (n every : ℕ) (old new : DeskState) (s : HoldStop) : Type 0 where
+  pub partly : (new.told ≡ old.told)
+      ⊎ ((text : List ℕ) × (k : ℕ) × IsHoldText setup n every old.reads text × Appended old.told (take k text) new.told)
+  pub unfinished : UnlessTelling s (IsCutShort setup n every old.reads old.told new.told)
+  pub refused : IfRefused s (IsRefused setup n every old new)
