@@ -2,10 +2,6 @@
 #![tactic(auto)]
 
 mod bank;
-#[cfg(test)]
-mod dump_tests;
-#[cfg(test)]
-mod tests;
 mod world_dump;
 mod world_report;
 

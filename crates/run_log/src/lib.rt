@@ -8,6 +8,3 @@ mod record;
 pub use log::{Log, Point};
 pub use population_curve::curve;
 pub use record::Record;
-
-#[cfg(test)]
-mod tests;

@@ -8,8 +8,6 @@ mod laws;
 mod owner;
 mod recovery;
 mod shelf;
-#[cfg(test)]
-mod tests;
 
 pub use faults::{HoldFault, ShelfFault};
 pub use laws::{always_says, one_hold};

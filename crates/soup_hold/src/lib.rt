@@ -4,8 +4,6 @@
 mod holding;
 mod next;
 mod stop;
-#[cfg(test)]
-mod tests;
 
 pub use holding::hold;
 pub use stop::HoldStop;

@@ -6,8 +6,6 @@ mod lists;
 mod migration;
 mod seeds;
 mod settling;
-#[cfg(test)]
-mod tests;
 mod text;
 
 pub use epochs::run_isles;

@@ -1,0 +1,153 @@
+//! The desk over a real file, in the folder that the test runs in, and the source over inputs that fail.
+ghost use Rattle.desk_io.specs.Source.{HasNoReadFault};
+
+use crate::{FileDesk, InputSource};
+use desk_io::{Desk, Piece, Source};
+use std::alloc::Global;
+use std::io::{Error, ErrorKind, Read};
+use std::test::Fail;
+use std::{fs, io};
+
+const BANK: &str = "tierra.bank";
+
+// What an input does at one read.
+#[derive(Clone, Copy)]
+enum Turn<'a> {
+    Gives(&'a [u8]),
+    Fails(ErrorKind),
+}
+
+// An input that does these turns in order, and then is at its end.
+#[derive(Drop)]
+struct Turns<'a> {
+    turns: &'a [Turn<'a>],
+    next: usize,
+}
+
+impl Read for Turns<'_> {
+    fn read(&mut self, buf: &mut [u8]) -> io::Result<usize> {
+        let Some(turn) = self.turns.get(self.next) else {
+            return Ok(0);
+        };
+        self.next += 1;
+        match *turn {
+            Turn::Gives(piece) => {
+                let count = piece.len().min(buf.len());
+                buf[..count].copy_from_slice(&piece[..count]);
+                Ok(count)
+            }
+            Turn::Fails(kind) => Err(Error::from(kind)),
+        }
+    }
+}
+
+// The bytes that a source gives, and the answer that ends them.
+fn drain<S: Source>(alloc: Global, source: &mut S) -> Result<(Vec<u8>, Piece), Fail>
+    requires { HasNoReadFault (S.state source.old) }
+{
+    let mut bytes = Vec::new(alloc);
+    let mut buf = [0; 4];
+    for _ in 0..10u32 {
+        match source.read(&mut buf) {
+            Piece::Got(count) => bytes.extend_from_slice(&buf[..count])?,
+            last => return Ok((bytes, last)),
+        }
+    }
+    Ok((bytes, Piece::Got(0)))
+}
+
+#[test]
+fn an_input_is_read_to_its_end_or_its_failure(rt: HostRuntime) -> Result<(), Fail> {
+    let again = Turn::Fails(ErrorKind::Interrupted);
+    let broken = Turn::Fails(ErrorKind::Other);
+    let rows: [(&[Turn<'_>], &[u8], Piece, u64); 6] = [
+        (&[], b"", Piece::End, 0),
+        (
+            &[Turn::Gives(b"a"), Turn::Gives(b"bc"), Turn::Gives(b"def")],
+            b"abcdef",
+            Piece::End,
+            0,
+        ),
+        (
+            &[again, Turn::Gives(b"abc"), again, again, Turn::Gives(b"d")],
+            b"abcd",
+            Piece::End,
+            0,
+        ),
+        (&[Turn::Gives(b"abc"), again], b"abc", Piece::End, 0),
+        (
+            &[Turn::Gives(b"ab"), broken, Turn::Gives(b"c")],
+            b"ab",
+            Piece::Failed,
+            1,
+        ),
+        (&[again, broken], b"", Piece::Failed, 1),
+    ];
+    for (turns, want, last, faults) in rows {
+        let mut source = InputSource::new(Turns { turns, next: 0 });
+        let (got, end) = drain(rt.alloc(), &mut source)?;
+        assert_eq!(rt; got.as_slice(), want);
+        assert_eq!(rt; end, last);
+        assert_eq!(rt; source.faults, faults);
+    }
+    Ok(())
+}
+
+#[test]
+fn a_file_has_what_was_written(rt: HostRuntime) -> Result<(), Fail> {
+    let _ = fs::remove_file(&rt, BANK);
+    let mut desk = FileDesk::new(&rt, BANK, io::sink());
+    assert_eq!(rt; desk.len()?, 0);
+    desk.write_at(0, b"bank")?;
+    desk.sync()?;
+    desk.write_at(4, b"!")?;
+    let mut again = FileDesk::new(&rt, BANK, io::sink());
+    assert_eq!(rt; again.len()?, 5);
+    let mut buf = [0; 4];
+    again.read_at(1, &mut buf)?;
+    assert_eq!(rt; buf, *b"ank!");
+    assert!(rt; again.read_at(2, &mut buf).is_err());
+    fs::remove_file(&rt, BANK)?;
+    Ok(())
+}
+
+#[test]
+fn a_second_run_is_kept_out(rt: HostRuntime) -> Result<(), Fail> {
+    let _ = fs::remove_file(&rt, BANK);
+    let mut reader = FileDesk::new(&rt, BANK, io::sink());
+    assert_eq!(rt; reader.len()?, 0);
+    assert!(rt; fs::metadata(&rt, BANK).is_err(), "a look makes no file");
+    let mut run = FileDesk::new(&rt, BANK, io::sink());
+    run.sync()?;
+    run.write_at(0, b"bank")?;
+    assert!(rt; FileDesk::new(&rt, BANK, io::sink()).sync().is_err());
+    assert!(rt;
+        FileDesk::new(&rt, BANK, io::sink())
+            .write_at(0, b"tank")
+            .is_err()
+    );
+    assert_eq!(rt; reader.len()?, 4);
+    run.write_at(4, b"!")?;
+    let mut buf = [0; 4];
+    assert!(rt; reader.read_at(0, &mut buf).is_err(), "it grew meanwhile");
+    let mut again = FileDesk::new(&rt, BANK, io::sink());
+    assert_eq!(rt; again.len()?, 5);
+    again.read_at(0, &mut buf)?;
+    drop(run);
+    let mut next = FileDesk::new(&rt, BANK, io::sink());
+    next.write_at(0, b"t")?;
+    fs::remove_file(&rt, BANK)?;
+    Ok(())
+}
+
+#[test]
+fn what_is_told_is_written_or_fails(rt: HostRuntime) -> Result<(), Fail> {
+    let mut bytes = [0; 6];
+    let mut desk = FileDesk::new(&rt, BANK, &mut bytes[..]);
+    desk.tell(b"saved")?;
+    assert!(rt; desk.tell(b"\n0").is_err(), "one byte has room");
+    assert_eq!(rt; (desk.disk_faults, desk.tell_faults), (0, 1));
+    drop(desk);
+    assert_eq!(rt; bytes, *b"saved\n");
+    Ok(())
+}

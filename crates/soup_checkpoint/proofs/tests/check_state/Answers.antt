@@ -1,4 +1,0 @@
-use Rattle.soup_checkpoint.proofs.tests.check_state.Goals as goal
-
-pub returns : goal.returns
-returns c = (c.in-Some._world.world, rw c.in-Some.is at c.in_ok-_world.ensures.some)

@@ -1,6 +1,0 @@
--- A read that was interrupted took nothing from the input.
-use Rattle.std.specs.Io.KnownBytes.{Keeps}
-use Rattle.tierra.proofs.outside.read_some.Given as goal
-
-abbrev pub invariant-loop : goal.invariant-loop
-invariant-loop g l = Keeps (g.I.Read.remaining l.fn.input) (g.I.Read.remaining l.input)
