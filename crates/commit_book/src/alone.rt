@@ -46,7 +46,7 @@ impl Book {
             committed += 1;
             saved = run.kept() > kept;
         }
-        let world = Box::new(alloc, run.finish())?;
+        let world = Box::new(alloc, run.finish(alloc)?)?;
         Ok(Book {
             setup: self.setup,
             quanta: self.quanta,

@@ -41,9 +41,9 @@ fn log_of_run(alloc: Global, setup: &Setup, quanta: u64) -> Result<Log, OutOfMem
         → point_of log.inoculated (up_to q log.records) ≡ counts_of (serial setup.now q)) }
 {
     let inoculated = count_of(setup);
-    let mut run = InPlace::of(World::start(alloc, setup)?)?;
     let mut log = Log::new(alloc, inoculated);
     let mut living = numbers(alloc, inoculated)?;
+    let mut run = InPlace::of(World::start(alloc, setup)?)?;
     for before in 0..quanta {
         living = note_quantum(alloc, &mut log, living, &mut run, inoculated, before + 1)?;
     }

@@ -86,12 +86,13 @@ impl InPlace {
         counted_next::<Brand>(alloc, &mut self.sole, Blank::new(1))
     }
 
-    /// The world between two quanta.
-    pub fn finish(self) -> World
+    /// The world between two quanta. If there is no memory for it, it is lost.
+    pub fn finish(self, alloc: Global) -> Result<World, OutOfMemory>
         requires { IsSound self }
-        ensures { result.world ≡ self }
+        ensures { IfOk result (λ w. w.world ≡ self) }
     {
-        self.sole.into_running().finish()
+        let world = self.sole.into_running().finish(alloc)?;
+        Ok(world)
     }
 }
 

@@ -6,9 +6,10 @@ mod mal;
 mod slice;
 mod sole;
 
-ghost use Rattle.std.specs.Prelude.{◌≡◌, ◌+◌, ◌<◌, ◌≤◌, IfOk};
+ghost use Rattle.std.specs.Prelude.{◌≡◌, ◌+◌, ◌<◌, ◌≤◌, IfOk, OnOk};
 ghost use Rattle.tierra_model.specs.declared.limits.TheConstants.{MOST_QUANTA};
 ghost use Rattle.tierra_model.specs.Serial.{serial};
+ghost use Rattle.tierra_model.specs.Sound.{IsSound};
 ghost use Rattle.serial_slicer.specs.Onward.{after};
 
 pub use crate::in_place::InPlace;
@@ -34,27 +35,32 @@ pub fn run_on(alloc: Global, world: World, n: u64) -> Result<World, OutOfMemory>
     requires { world.world.quanta + n ≤ MOST_QUANTA }
     ensures { IfOk result (λ w. w.world ≡ after n world.world) }
 {
-    counted::<Brand>(alloc, world, n, Blank::new(1))
+    let _settings = world.settings();
+    let mut sole = Sole::new(world.begin())?;
+    run_quanta::<Brand>(alloc, &mut sole, n, Blank::new(1))?;
+    let world = sole.into_running().finish(alloc)?;
+    Ok(world)
 }
 
-// The world after `n` more quanta, with a count of the instructions that only contracts see.
-fn counted<L: Ledger>(
+// Runs `n` quanta, with a count of the instructions that only contracts see.
+fn run_quanta<L: Ledger>(
     alloc: Global,
-    world: World,
+    sole: &mut Sole,
     n: u64,
     blank: Blank,
-) -> Result<World, OutOfMemory>
-    requires few { world.world.quanta + n ≤ MOST_QUANTA }
+) -> Result<(), OutOfMemory>
+    requires sound { IsSound sole.old.world }
+    requires few { sole.old.world.quanta + n ≤ MOST_QUANTA }
     requires name { blank.name ≡ L.name }
     requires parts { blank.parts ≡ L.parts }
     requires some { 0 < L.parts }
-    ensures { IfOk result (λ w. w.world ≡ after n world.world) }
+    ensures after { OnOk result (sole.new.world ≡ after n sole.old.world) }
+    ensures sound { OnOk result (IsSound sole.new.world) }
 {
-    let settings = *world.settings();
-    let mut sole = Sole::new(world.begin())?;
+    let settings = *sole.settings();
     let mut steps = Steps::<L>::start(blank);
     for _quantum in 0..n {
-        run_quantum(alloc, &mut sole, &settings, &mut steps)?;
+        run_quantum(alloc, sole, &settings, &mut steps)?;
     }
-    Ok(sole.into_running().finish())
+    Ok(())
 }

@@ -11,7 +11,7 @@ ghost use Rattle.tierra_model.specs.Replay.{CanHappen, RecordFits};
 ghost use Rattle.tierra_model.specs.Room.{is_owned, room_for};
 ghost use Rattle.tierra_model.specs.World.{front, put};
 ghost use Rattle.mutation_streams.specs.Draws.{draws_of};
-ghost use Rattle.world_core.specs.Running.{IsRunning};
+ghost use Rattle.world_core.specs.Running.{AllReady, IsRunning};
 ghost use Rattle.serial_slicer.specs.Turns.{IsTurn};
 
 use mutation_streams::Draws;
@@ -95,10 +95,7 @@ impl Sole {
         ensures { IfOk result (λ s. s.world ≡ running.world) }
     {
         let mut running = running;
-        let last = (running.settings().soup_size - 1) / PAGE;
-        for page in 0..last + 1 {
-            running.ready(page * PAGE)?;
-        }
+        make_ready(&mut running)?;
         let none = Block { at: 0, size: 0 };
         Ok(Sole {
             running,
@@ -304,6 +301,19 @@ impl Sole {
 
 ghost use Rattle.std.specs.Prelude.{Some, ◌+◌};
 ghost use Rattle.tierra_model.specs.Step.{flip_bit};
+
+// Makes all cells of a world ready.
+fn make_ready(running: &mut Running) -> Result<(), OutOfMemory>
+    requires { length running.old.world.soup ≡ running.old.world.settings.soup_size }
+    ensures world { OnOk result (running.new.world ≡ running.old.world) }
+    ensures ready { OnOk result (AllReady running.new) }
+{
+    let last = (running.settings().soup_size - 1) / PAGE;
+    for page in 0..last + 1 {
+        running.ready(page * PAGE)?;
+    }
+    Ok(())
+}
 
 // The value with the bit flipped.
 fn flip_bit(value: u8, bit: u8) -> u8

@@ -56,7 +56,8 @@ pub(crate) fn world_from(alloc: Global, draft: Draft) -> Result<World, OutOfMemo
         census,
         counts,
     );
-    Ok(running.finish())
+    let world = running.finish(alloc)?;
+    Ok(world)
 }
 
 fn soup_from(alloc: Global, size: u32, cells: &[u8]) -> Result<Soup, OutOfMemory>

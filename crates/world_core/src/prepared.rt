@@ -70,9 +70,10 @@ impl World {
             after,
             codes,
         } = prepared;
-        do_all(&mut self.running, &events.items, codes);
-        self.running.put(after);
-        self.running.turn_end();
+        let running = &mut *self.running;
+        do_all(running, &events.items, codes);
+        running.put(after);
+        running.turn_end();
     }
 }
 

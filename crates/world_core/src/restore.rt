@@ -1,6 +1,8 @@
 //! A world made again from its bytes.
 
-ghost use Rattle.std.specs.Prelude.{◌≡◌, ◌↔◌, Err, IfNone, IfOk, IfSome, IsTrue};
+ghost use Rattle.std.specs.Prelude.{◌≡◌, Err, IfNone, IfOk, IfSome, OnOk};
+ghost use Rattle.tierra_model.specs.Sound.{IsSound};
+ghost use Rattle.tierra_model.specs.World as worlds;
 ghost use Rattle.world_state.specs.Restoring.{AreBytesOf, AreOfNoWorld};
 ghost use Rattle.world_state.specs.declared.fields.Stop.TheVariants.{NoWorld};
 
@@ -8,7 +10,7 @@ use crate::building::world_from;
 use crate::world::World;
 use std::alloc::{AllocError, Global};
 use tierra_model::{OutOfMemory, Settings};
-use world_state::{Stop, draft_of};
+use world_state::{Draft, Stop, draft_of};
 
 impl World {
     /// The sound world with these settings that has these state bytes, if there is one.
@@ -33,21 +35,36 @@ fn restored(alloc: Global, settings: &Settings, bytes: &[u8]) -> Result<World, S
     ensures some { IfOk result (λ w. AreBytesOf settings.now bytes.now w.world) }
     ensures none { result ≡ Err NoWorld → AreOfNoWorld settings.now bytes.now }
 {
-    let draft = draft_of(alloc, settings, bytes)?;
-    if !draft.is_sound(alloc)? {
-        return Err(Stop::NoWorld);
-    }
+    let draft = sound_draft(alloc, settings, bytes)?;
     let world = world_from(alloc, draft)?;
-    if !tells(alloc, &world, bytes)? {
-        return Err(Stop::NoWorld);
-    }
+    tells(alloc, &world, bytes)?;
     Ok(world)
 }
 
-// Whether the bytes are those of the world.
-fn tells(alloc: Global, world: &World, bytes: &[u8]) -> Result<bool, OutOfMemory>
-    ensures { IfOk result (λ same. IsTrue same ↔ AreBytesOf world.now.world.settings bytes.now world.now.world) }
+// The world that the bytes spell, if they spell one that is sound.
+fn sound_draft(alloc: Global, settings: &Settings, bytes: &[u8]) -> Result<Draft, Stop>
+    ensures settings { IfOk result (λ d. d.settings ≡ settings.now) }
+    ensures sound { IfOk result IsSound }
+    ensures told { IfOk result (λ d. (w : worlds.World) → AreBytesOf settings.now bytes.now w → d ≡ w) }
+    ensures none { result ≡ Err NoWorld → AreOfNoWorld settings.now bytes.now }
+{
+    let draft = draft_of(alloc, settings, bytes)?;
+    if draft.is_sound(alloc)? {
+        Ok(draft)
+    } else {
+        Err(Stop::NoWorld)
+    }
+}
+
+// Ok if the bytes are those of the world.
+fn tells(alloc: Global, world: &World, bytes: &[u8]) -> Result<(), Stop>
+    ensures same { OnOk result (AreBytesOf world.now.world.settings bytes.now world.now.world) }
+    ensures other { result ≡ Err NoWorld → AreBytesOf world.now.world.settings bytes.now world.now.world → ⊥ }
 {
     let code = world.state_bytes(alloc)?;
-    Ok(code.items.as_slice() == bytes)
+    if code.items.as_slice() == bytes {
+        Ok(())
+    } else {
+        Err(Stop::NoWorld)
+    }
 }

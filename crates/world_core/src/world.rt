@@ -24,7 +24,8 @@ use world_state::copied;
 /// A sound world, in which no quantum runs.
 #[derive(Drop)]
 pub struct World {
-    pub(crate) running: Running,
+    // boxed, so that a world is small, and quick to move
+    pub(crate) running: Box<Running>,
 }
 
 impl Model for World {
@@ -33,9 +34,9 @@ impl Model for World {
 
     ghost Value = { WorldFields };
 
-    ghost view = { λ w. w.running };
+    ghost view = { λ w. w.running.value };
 
-    ghost invariant = { λ w. IsSound w.running.world };
+    ghost invariant = { λ w. IsSound w.running.value.world };
 }
 
 impl World {
@@ -43,7 +44,7 @@ impl World {
     pub fn start(alloc: Global, setup: &Setup) -> Result<World, OutOfMemory>
         ensures { IfOk result (λ w. w.world ≡ start setup.now) }
     {
-        let mut running = Running::empty(alloc, &setup.settings)?;
+        let mut running = Box::new(alloc, Running::empty(alloc, &setup.settings)?)?;
         let seeds: &SeedList = &setup.creatures;
         inoculate_all(alloc, &mut running, &seeds.items)?;
         Ok(World { running })
@@ -54,7 +55,7 @@ impl World {
         ensures world { result ≡ self }
         ensures sound { IsSound result.world }
     {
-        self.running
+        Box::into_inner(self.running)
     }
 
     /// The settings of the world.
@@ -198,12 +199,13 @@ impl Now for World {
 }
 
 impl Running {
-    /// Ends a quantum.
-    pub fn finish(self) -> World
+    /// Ends a quantum. If there is no memory for the world, it is lost.
+    pub fn finish(self, alloc: Global) -> Result<World, OutOfMemory>
         requires { IsSound self.world }
-        ensures { result ≡ self }
+        ensures { IfOk result (λ w. w ≡ self) }
     {
-        World { running: self }
+        let running = Box::new(alloc, self)?;
+        Ok(World { running })
     }
 }
 

@@ -1,5 +1,5 @@
 -- The counter is over the ledger of its blank.
 use Rattle.serial_slicer.proofs.run_on.Given as goal
 
-abbrev pub ghosts-counted : goal.ghosts-counted
-ghosts-counted a = record { name = a.blank.name; parts = a.blank.parts }
+abbrev pub ghosts-run_quanta : goal.ghosts-run_quanta
+ghosts-run_quanta a = record { name = a.blank.name; parts = a.blank.parts }

@@ -102,4 +102,4 @@ finish-requires c = subst IsSound (sym (same ((goal.at.finish-requires c).After-
 
 pub returns : goal.returns
 returns c =
-    ap (λ (f : WorldFields). f.world) c.finish.ensures ∙ same ((goal.at.returns c).After-of-running) ∙ c.draft.view_is
+    ap (λ (f : WorldFields). f.world) c.in_ok-world.ensures ∙ same ((goal.at.returns c).After-of-running) ∙ c.draft.view_is

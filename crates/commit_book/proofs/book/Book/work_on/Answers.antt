@@ -64,7 +64,7 @@ invariant_of-result g c =
     let same : left ≡ state_of b l.committed l.stash.items l.history =
     (λ j. record v { committed = l.committed; handed = c.max.ensures j; stash = l.stash.items; history = l.history })
     ∙ ap (λ (x : BookFields). state_of x l.committed l.stash.items l.history) c.self.view_is in
-    let world : c.in_ok-world.world.value.world ≡ l.run = ap (λ (w : WorldFields). w.world) c.in_ok-world.ensures.ok ∙ c.finish.ensures in
+    let world : c.in_ok-world.world.value.world ≡ l.run = ap (λ (w : WorldFields). w.world) c.in_ok-world.ensures.ok ∙ c.in_ok-finish.ensures in
     record {
       book = subst (IsBook left) (sym world) (subst (λ (x : BookFields). IsBook x l.run) (sym same) l.invariant.working.book);
       shown = nothing-shown c.nothing.result c.in_ok-world.world.value.world c.nothing.ensures;

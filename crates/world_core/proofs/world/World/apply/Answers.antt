@@ -14,7 +14,8 @@ done : (c : After-do_all) → c.do_all.new.running.world ≡ after_events c.args
 done c =
     let events : c.deref.result.now ≡ c.args.prepared.events
     = c.deref.ensures.value ∙ c.events.view_is ∙ ap (λ (p : PreparedFields). p.events) c.prepared.view_is in
-    c.do_all.ensures ∙ (λ i. after_events (c.self.view_is i).world (events i))
+    c.do_all.ensures ∙ (λ i. after_events (c.deref_mut-running.ensures.value i).world (events i))
+    ∙ ap (λ (h : WorldFields). after_events h.world c.args.prepared.events) c.self.view_is
 
 runs : (c : After-do_all) → IsRunning c.do_all.new.running.world
 runs c =

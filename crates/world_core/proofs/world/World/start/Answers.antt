@@ -3,6 +3,7 @@ use Rattle.tierra_model.specs.Serial.{empty_world, start, with_inocula}
 use Rattle.tierra_model.specs.Setups.{SetupFields}
 use Rattle.tierra_model.specs.Sound.{IsSound}
 use Rattle.tierra_model.proofs.StartIsSound.{start-sound}
+use Rattle.world_core.specs.Running.{WorldFields}
 use Rattle.world_core.proofs.world.World.start.Goals as goal
 use Rattle.world_core.proofs.world.World.start.Goals.{In_ok-inoculate_all}
 
@@ -11,7 +12,9 @@ started : (c : In_ok-inoculate_all) → c.inoculate_all.new.running.world ≡ st
 unfolding start
 started c =
     let creatures : c.deref.result.now ≡ c.setup.inside.creatures = search rules in
-    c.in_ok-inoculate_all.ensures ∙ (λ i. with_inocula (creatures i) (c.in_ok-running.ensures i))
+    let empty : c.deref_mut.result.now.world ≡ empty_world c.setup.inside.settings =
+    ap (λ (h : WorldFields). h.world) (c.deref_mut.ensures.value ∙ c.in_ok-running.ensures.ok) ∙ c.in_ok-empty.ensures in
+    c.in_ok-inoculate_all.ensures ∙ (λ i. with_inocula (creatures i) (empty i))
     ∙ ap (λ (s : SetupFields). with_inocula s.creatures (empty_world s.settings)) c.setup.view_is
 
 pub invariant_of-result : goal.invariant_of-result

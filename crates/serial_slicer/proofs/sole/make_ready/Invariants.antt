@@ -1,6 +1,6 @@
 use Rattle.std.proofs.Common.{◌≡◌, ℕ, ◌*◌, ◌<◌, true}
 use Rattle.world_core.specs.Running.{can_be_set}
-use Rattle.serial_slicer.proofs.sole.Sole.new.Given as goal
+use Rattle.serial_slicer.proofs.sole.make_ready.Given as goal
 
 abbrev pub invariant-loop-page : goal.invariant-loop-page
 invariant-loop-page l = record {

@@ -3,7 +3,7 @@ use Rattle.std.proofs.lemmas.Bool.Decides.{leb_tells}
 use Rattle.std.specs.Prelude.{slice_index_or}
 use Rattle.world_core.specs.Running.{WorldFields, can_be_set}
 use Rattle.soup_cells.specs.Soup.{is_ready}
-use Rattle.serial_slicer.proofs.sole.Sole.new.Goals as goal
+use Rattle.serial_slicer.proofs.sole.make_ready.Goals as goal
 
 -- the cells of a page are ready together
 ready_together : (h : WorldFields) (page p : ℕ) → page * 16384 ≤ p → p < (page + 1) * 16384 → can_be_set h (page * 16384) ≡ true → can_be_set h p ≡ true
