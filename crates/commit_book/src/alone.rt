@@ -30,9 +30,8 @@ impl Book {
         let mut committed = self.committed;
         let mut stash = self.stash;
         let mut history = self.history;
-        let world = Box::into_inner(self.world);
-        let kept = world.kept();
-        let mut run = InPlace::of(world)?;
+        let kept = self.world.kept();
+        let mut run = InPlace::of(self.world)?;
         let mut saved = false;
         'quanta: while !saved && committed < self.quanta {
             work_next(
@@ -46,7 +45,7 @@ impl Book {
             committed += 1;
             saved = run.kept() > kept;
         }
-        let world = Box::new(alloc, run.finish(alloc)?)?;
+        let world = run.finish(alloc)?;
         Ok(Book {
             setup: self.setup,
             quanta: self.quanta,

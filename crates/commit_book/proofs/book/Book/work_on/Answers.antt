@@ -1,6 +1,5 @@
 use Rattle.std.proofs.Common.{◌≡◌, ◌-◌, ◌<◌, sym, ◌∙◌, ap, subst, arith}
 use Rattle.tierra_model.specs.Setups.{IsSetup}
-use Rattle.world_core.specs.Running.{WorldFields}
 use Rattle.commit_book.specs.Book.{BookFields}
 use Rattle.commit_book.specs.Kept.{IsBook}
 use Rattle.commit_book.specs.contracts.book.Book.{the_view}
@@ -13,11 +12,11 @@ use Rattle.commit_book.proofs.book.Book.work_on.Goals as goal
 pub quanta-init : goal.quanta-init
 quanta-init g c =
     let i = c.self.inside in
-    let same : c.in_ok-run.run' ≡ i.world.value.world = c.in_ok-run.ensures ∙ ap (λ (w : WorldFields). w.world) c.into_inner-world.ensures in
+    let same : c.in_ok-run.run' ≡ i.world.world = c.in_ok-run.ensures in
     record {
       working =
           subst (λ (x : BookFields). IsWorking x i.committed i.stash.items i.history c.in_ok-run.run') c.self.view_is
-          (starts (the_view i) i.world.value.world c.in_ok-run.run' c.self.invariant.book same);
+          (starts (the_view i) i.world.world c.in_ok-run.run' c.self.invariant.book same);
       some = λ e. absurd (let n : ⊥ = cc in n);
     }
 
@@ -64,10 +63,10 @@ invariant_of-result g c =
     let same : left ≡ state_of b l.committed l.stash.items l.history =
     (λ j. record v { committed = l.committed; handed = c.max.ensures j; stash = l.stash.items; history = l.history })
     ∙ ap (λ (x : BookFields). state_of x l.committed l.stash.items l.history) c.self.view_is in
-    let world : c.in_ok-world.world.value.world ≡ l.run = ap (λ (w : WorldFields). w.world) c.in_ok-world.ensures.ok ∙ c.in_ok-finish.ensures in
+    let world : c.in_ok-world.world.world ≡ l.run = c.in_ok-world.ensures in
     record {
       book = subst (IsBook left) (sym world) (subst (λ (x : BookFields). IsBook x l.run) (sym same) l.invariant.working.book);
-      shown = nothing-shown c.nothing.result c.in_ok-world.world.value.world c.nothing.ensures;
+      shown = nothing-shown c.nothing.result c.in_ok-world.world.world c.nothing.ensures;
     }
 
 pub returns : goal.returns
