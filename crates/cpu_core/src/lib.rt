@@ -7,8 +7,6 @@ mod copying;
 mod draws;
 mod jumps;
 mod stack;
-#[cfg(test)]
-mod tests;
 
 ghost use Rattle.std.specs.Prelude.{◌≡◌, ◌<◌, ◌+◌};
 ghost use Rattle.tierra_model.specs.declared.limits.TheConstants.{COUNT_END};

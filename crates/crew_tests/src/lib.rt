@@ -1,4 +1,4 @@
-//! Tests of the commit book: its jobs, schedules by hand, workers at it, and observers beside them.
+//! Tests of the commit book: the lock of its turns, its jobs, schedules by hand, workers at it, and observers beside them.
 #![tactic(auto)]
 
 #[cfg(test)]
@@ -7,5 +7,7 @@ mod book;
 mod observers;
 #[cfg(test)]
 mod schedules;
+#[cfg(test)]
+mod turns;
 #[cfg(test)]
 mod workers;

@@ -5,8 +5,6 @@
 mod disk_file;
 mod file_desk;
 mod input_source;
-#[cfg(test)]
-mod tests;
 
 pub use file_desk::FileDesk;
 pub use input_source::InputSource;

@@ -9,8 +9,6 @@ mod header;
 mod opening;
 mod reading;
 mod room;
-#[cfg(test)]
-mod tests;
 mod writes;
 
 pub use appending::append;

@@ -291,6 +291,3 @@ fn put_last(entries: &mut IndexMap<Code, Details>, code: Code, details: Details)
     let put: Result<_, _> = entries.insert(code, details);
     let _none = put.unwrap();
 }
-
-#[cfg(test)]
-mod tests;

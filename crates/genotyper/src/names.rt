@@ -164,6 +164,3 @@ fn value_in(base: u64, first: u8, digits: &[u8]) -> u64
     }
     value
 }
-
-#[cfg(test)]
-mod tests;

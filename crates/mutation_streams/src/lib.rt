@@ -3,8 +3,6 @@
 #![tactic(auto)]
 
 mod reading;
-#[cfg(test)]
-mod tests;
 
 ghost use Rattle.std.specs.Prelude.{◌≡◌, ◌+◌, ◌*◌, [], ◌∷◌, IfSome};
 ghost use Rattle.rand_chacha.specs.ChaCha.{key_of};

@@ -12,6 +12,3 @@ mod value;
 pub use fault::FileFault;
 pub use laws::{one_creature_is_grown, soup_files_are_clear};
 pub use reading::read_setup;
-
-#[cfg(test)]
-mod tests;

@@ -9,6 +9,3 @@ mod table;
 
 pub use laws::words_are_clear;
 pub use order::{Action, Order, WordsFault, file_for, read_words};
-
-#[cfg(test)]
-mod tests;

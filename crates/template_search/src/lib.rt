@@ -9,8 +9,6 @@ mod nearest;
 mod opening;
 mod places;
 mod template;
-#[cfg(test)]
-mod tests;
 
 ghost use Rattle.std.specs.Prelude.{◌<◌, ◌≤◌};
 ghost use Rattle.tierra_model.specs.declared.limits.TheConstants.{MOST_CELLS};

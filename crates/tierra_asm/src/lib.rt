@@ -58,6 +58,3 @@ pub fn assemble(alloc: Global, text: &str) -> Result<Code, AsmFault>
     }
     Ok(Code { items })
 }
-
-#[cfg(test)]
-mod tests;

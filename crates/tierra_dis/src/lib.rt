@@ -8,6 +8,3 @@ mod laws;
 pub use disassembly::{DisFault, disassemble};
 pub use hex_text::{HexFault, hex_line, read_hex};
 pub use laws::listings_read_back;
-
-#[cfg(test)]
-mod tests;

@@ -9,8 +9,6 @@ mod kept;
 mod lock;
 mod seat;
 mod steps;
-#[cfg(test)]
-mod tests;
 mod view;
 
 pub use kept::Kept;

@@ -15,6 +15,3 @@ pub use draft::{Draft, draft_of};
 pub use entering::genotypes_from;
 pub use fields::{Found, Stop};
 pub use saving::Saving;
-
-#[cfg(test)]
-mod tests;

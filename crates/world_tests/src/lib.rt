@@ -4,6 +4,8 @@
 #[cfg(test)]
 mod bytes;
 #[cfg(test)]
+mod drafts;
+#[cfg(test)]
 mod looks;
 #[cfg(test)]
 mod runs;

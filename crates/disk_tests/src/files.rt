@@ -1,0 +1,172 @@
+//! The desk over a real file, in the folder that the test runs in, and the source over inputs that fail.
+
+use crate::sources::drain;
+use desk_io::{Desk, Piece};
+use file_desk::{FileDesk, InputSource};
+use std::alloc::Global;
+use std::io::{Error, ErrorKind, Read};
+use std::test::Fail;
+use std::{fs, io};
+
+const BANK: &str = "tierra.bank";
+
+// What an input does at one read.
+#[derive(Clone, Copy)]
+enum Turn<'a> {
+    Gives(&'a [u8]),
+    Fails(ErrorKind),
+}
+
+// An input that does these turns in order, and then is at its end.
+#[derive(Drop)]
+struct Turns<'a> {
+    turns: &'a [Turn<'a>],
+    next: usize,
+}
+
+impl Read for Turns<'_> {
+    fn read(&mut self, buf: &mut [u8]) -> io::Result<usize> {
+        let Some(turn) = self.turns.get(self.next) else {
+            return Ok(0);
+        };
+        self.next += 1;
+        match *turn {
+            Turn::Gives(piece) => {
+                let count = piece.len().min(buf.len());
+                buf[..count].copy_from_slice(&piece[..count]);
+                Ok(count)
+            }
+            Turn::Fails(kind) => Err(Error::from(kind)),
+        }
+    }
+}
+
+// What an input of these turns gives: its bytes, the answer that ends them, and the faults.
+fn drain_turns(alloc: Global, turns: &[Turn<'_>]) -> Result<(Vec<u8>, Piece, u64), Fail> {
+    let mut source = InputSource::new(Turns { turns, next: 0 });
+    let (bytes, last) = drain(alloc, &mut source)?;
+    Ok((bytes, last, source.faults))
+}
+
+#[test]
+fn an_input_is_read_to_its_end_or_its_failure(rt: HostRuntime) -> Result<(), Fail> {
+    let again = Turn::Fails(ErrorKind::Interrupted);
+    let broken = Turn::Fails(ErrorKind::Other);
+    let rows: [(&[Turn<'_>], &[u8], Piece, u64); 6] = [
+        (&[], b"", Piece::End, 0),
+        (
+            &[Turn::Gives(b"a"), Turn::Gives(b"bc"), Turn::Gives(b"def")],
+            b"abcdef",
+            Piece::End,
+            0,
+        ),
+        (
+            &[again, Turn::Gives(b"abc"), again, again, Turn::Gives(b"d")],
+            b"abcd",
+            Piece::End,
+            0,
+        ),
+        (&[Turn::Gives(b"abc"), again], b"abc", Piece::End, 0),
+        (
+            &[Turn::Gives(b"ab"), broken, Turn::Gives(b"c")],
+            b"ab",
+            Piece::Failed,
+            1,
+        ),
+        (&[again, broken], b"", Piece::Failed, 1),
+    ];
+    for (turns, want, last, faults) in rows {
+        let (got, end, failed) = drain_turns(rt.alloc(), turns)?;
+        assert_eq!(rt; (got.as_slice(), end, failed), (want, last, faults));
+    }
+    Ok(())
+}
+
+#[test]
+fn a_file_has_what_was_written(rt: HostRuntime) -> Result<(), Fail> {
+    let _ = fs::remove_file(&rt, BANK);
+    let mut desk = FileDesk::new(&rt, BANK, io::sink());
+    assert_eq!(rt; desk.len()?, 0);
+    desk.write_at(0, b"bank")?;
+    desk.sync()?;
+    desk.write_at(4, b"!")?;
+    let mut again = FileDesk::new(&rt, BANK, io::sink());
+    assert_eq!(rt; again.len()?, 5);
+    let mut buf = [0; 4];
+    again.read_at(1, &mut buf)?;
+    assert_eq!(rt; buf, *b"ank!");
+    assert!(rt; again.read_at(2, &mut buf).is_err());
+    fs::remove_file(&rt, BANK)?;
+    Ok(())
+}
+
+// Whether a sync and a write of further runs fail.
+fn are_kept_out(rt: &HostRuntime) -> (bool, bool) {
+    let synced = FileDesk::new(rt, BANK, io::sink()).sync();
+    let written = FileDesk::new(rt, BANK, io::sink()).write_at(0, b"tank");
+    (synced.is_err(), written.is_err())
+}
+
+// Makes the file, and gives whether others are kept out meanwhile.
+fn run_once(rt: &HostRuntime) -> Result<(bool, bool), Fail> {
+    let mut run = FileDesk::new(rt, BANK, io::sink());
+    run.sync()?;
+    run.write_at(0, b"bank")?;
+    Ok(are_kept_out(rt))
+}
+
+#[test]
+fn a_second_run_is_kept_out(rt: HostRuntime) -> Result<(), Fail> {
+    let _ = fs::remove_file(&rt, BANK);
+    assert_eq!(rt; run_once(&rt)?, (true, true));
+    let mut next = FileDesk::new(&rt, BANK, io::sink());
+    next.write_at(0, b"t")?;
+    fs::remove_file(&rt, BANK)?;
+    Ok(())
+}
+
+#[test]
+fn a_look_makes_no_file(rt: HostRuntime) -> Result<(), Fail> {
+    let _ = fs::remove_file(&rt, BANK);
+    let len = FileDesk::new(&rt, BANK, io::sink()).len()?;
+    assert_eq!(rt; (len, fs::metadata(&rt, BANK).is_err()), (0, true));
+    Ok(())
+}
+
+// Writes a file that two others read. Gives the lengths that they are told, and whether the first one fails to read,
+// since the file has grown.
+fn grown(rt: &HostRuntime) -> Result<(u64, u64, u64, bool), Fail> {
+    let mut reader = FileDesk::new(rt, BANK, io::sink());
+    let none = reader.len()?;
+    let mut run = FileDesk::new(rt, BANK, io::sink());
+    run.sync()?;
+    run.write_at(0, b"bank")?;
+    let four = reader.len()?;
+    run.write_at(4, b"!")?;
+    let mut buf = [0; 4];
+    let failed = reader.read_at(0, &mut buf).is_err();
+    let mut again = FileDesk::new(rt, BANK, io::sink());
+    let five = again.len()?;
+    again.read_at(0, &mut buf)?;
+    Ok((none, four, five, failed))
+}
+
+#[test]
+fn a_reader_is_told_that_the_file_grew(rt: HostRuntime) -> Result<(), Fail> {
+    let _ = fs::remove_file(&rt, BANK);
+    assert_eq!(rt; grown(&rt)?, (0, 4, 5, true));
+    fs::remove_file(&rt, BANK)?;
+    Ok(())
+}
+
+#[test]
+fn what_is_told_is_written_or_fails(rt: HostRuntime) -> Result<(), Fail> {
+    let mut bytes = [0; 6];
+    let mut desk = FileDesk::new(&rt, BANK, &mut bytes[..]);
+    desk.tell(b"saved")?;
+    assert!(rt; desk.tell(b"\n0").is_err(), "one byte has room");
+    assert_eq!(rt; (desk.disk_faults, desk.tell_faults), (0, 1));
+    drop(desk);
+    assert_eq!(rt; bytes, *b"saved\n");
+    Ok(())
+}

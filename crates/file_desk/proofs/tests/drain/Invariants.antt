@@ -1,5 +1,0 @@
-use Rattle.desk_io.specs.Source.{HasNoReadFault}
-use Rattle.file_desk.proofs.tests.drain.Given as goal
-
-abbrev pub invariant-loop : goal.invariant-loop
-invariant-loop g l = HasNoReadFault (g.S.Source.state l.source)

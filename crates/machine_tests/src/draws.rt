@@ -1,0 +1,154 @@
+//! Draws against words of ChaCha8 that another program worked out.
+
+use mutation_streams::Draws;
+use tierra_model::Settings;
+
+const ZEROS: [u8; 32] = [0; 32];
+
+const RISING: [u8; 32] = [
+    0, 1, 2, 3, 4, 5, 6, 7, 8, 9, 10, 11, 12, 13, 14, 15, 16, 17, 18, 19, 20, 21, 22, 23, 24, 25,
+    26, 27, 28, 29, 30, 31,
+];
+
+const ONES: [u8; 32] = [255; 32];
+
+/// Seed, quantum, instruction and rate, and what is drawn in a soup of 60,000 cells: the flip in the soup, the flaw
+/// and the flip in a copy. A rate above 7 is one of the words itself.
+type Row = ([u8; 32], u64, u32, u32, Option<(u32, u8)>, i32, Option<u8>);
+
+const ROWS: [Row; 42] = [
+    (ZEROS, 1, 0, 1, Some((24505, 0)), 1, Some(4)),
+    (ZEROS, 1, 0, 2, None, 0, None),
+    (ZEROS, 1, 0, 7, None, 1, None),
+    (ZEROS, 1, 9999, 1, Some((24505, 0)), -1, Some(2)),
+    (ZEROS, 1, 9999, 2, None, -1, None),
+    (ZEROS, 1, 9999, 7, None, 0, None),
+    (ZEROS, 1, 9999, 3008073515, Some((24505, 0)), 0, None),
+    (ZEROS, 1, 9999, 3504790356, None, -1, None),
+    (ZEROS, 1, 9999, 2080454571, None, 0, Some(2)),
+    (ZEROS, 4000000, 0, 1, Some((52596, 1)), 1, Some(3)),
+    (ZEROS, 4000000, 0, 2, None, 0, Some(3)),
+    (ZEROS, 4000000, 0, 7, None, 0, None),
+    (ZEROS, 4000000, 9999, 1, Some((52596, 1)), -1, Some(1)),
+    (ZEROS, 4000000, 9999, 2, None, 0, Some(1)),
+    (ZEROS, 4000000, 9999, 7, None, -1, None),
+    (RISING, 1, 0, 1, Some((25337, 4)), 1, Some(0)),
+    (RISING, 1, 0, 2, None, 1, None),
+    (RISING, 1, 0, 7, None, 0, None),
+    (RISING, 1, 9999, 1, Some((25337, 4)), 1, Some(1)),
+    (RISING, 1, 9999, 2, None, 0, Some(1)),
+    (RISING, 1, 9999, 7, None, 0, None),
+    (RISING, 4000000, 0, 1, Some((15041, 2)), -1, Some(2)),
+    (RISING, 4000000, 0, 2, Some((15041, 2)), -1, None),
+    (RISING, 4000000, 0, 7, None, 0, None),
+    (RISING, 4000000, 0, 1016334482, Some((15041, 2)), 0, None),
+    (RISING, 4000000, 0, 3726298628, None, -1, None),
+    (RISING, 4000000, 0, 1882000579, None, 0, Some(2)),
+    (RISING, 4000000, 9999, 1, Some((15041, 2)), -1, Some(0)),
+    (RISING, 4000000, 9999, 2, Some((15041, 2)), 0, None),
+    (RISING, 4000000, 9999, 7, None, 0, None),
+    (ONES, 1, 0, 1, Some((36245, 4)), 1, Some(2)),
+    (ONES, 1, 0, 2, None, 0, Some(2)),
+    (ONES, 1, 0, 7, None, 0, None),
+    (ONES, 1, 9999, 1, Some((36245, 4)), -1, Some(1)),
+    (ONES, 1, 9999, 2, None, -1, Some(1)),
+    (ONES, 1, 9999, 7, None, 0, None),
+    (ONES, 4000000, 0, 1, Some((42982, 3)), -1, Some(2)),
+    (ONES, 4000000, 0, 2, Some((42982, 3)), 0, Some(2)),
+    (ONES, 4000000, 0, 7, Some((42982, 3)), 0, None),
+    (ONES, 4000000, 9999, 1, Some((42982, 3)), 1, Some(2)),
+    (ONES, 4000000, 9999, 2, Some((42982, 3)), 1, Some(2)),
+    (ONES, 4000000, 9999, 7, Some((42982, 3)), 0, None),
+];
+
+fn settings(seed: [u8; 32], rate: u32) -> Settings {
+    Settings {
+        soup_size: 60000,
+        slice_size: 25,
+        slice_by_size: false,
+        slice_num: 1,
+        slice_den: 4,
+        search_limit: 400,
+        min_template: 1,
+        min_cell: 12,
+        max_cell: 20000,
+        mal_mult: 3,
+        fill_percent: 80,
+        move_percent: 70,
+        save_at: 2,
+        back_rate: rate,
+        copy_rate: rate,
+        flaw_rate: rate,
+        seed,
+        dist_every: 0,
+        dist_percent: 10,
+    }
+}
+
+/// A flip in the soup, a flaw, and a flip in a copy.
+type Drawn = (Option<(u32, u8)>, i32, Option<u8>);
+
+fn drawn(settings: &Settings, q: u64, i: u32) -> Drawn {
+    asked(&mut Draws::new(settings, q), i)
+}
+
+fn asked(draws: &mut Draws, i: u32) -> Drawn {
+    (draws.back(), draws.flaw(i), draws.copy_bit(i))
+}
+
+#[test]
+fn draws_are_the_words_of_the_stream(rt: HostRuntime) {
+    for (seed, q, i, rate, back, flaw, copy_bit) in ROWS {
+        assert_eq!(rt;
+            drawn(&settings(seed, rate), q, i),
+            (back, flaw, copy_bit),
+            "quantum {q} instruction {i} rate {rate}"
+        );
+    }
+}
+
+// Instruction 0 and those after it in order, some of them left out or asked for twice, and then one far away.
+const IN_TURN: [u32; 20] = [
+    0, 1, 2, 3, 5, 6, 7, 8, 9, 13, 14, 15, 16, 17, 18, 18, 40, 9999, 9998, 0,
+];
+
+// The flaw is drawn before the copy's flip, and the soup's flip is drawn last.
+fn asked_in_turn(draws: &mut Draws, i: u32) -> (i32, Option<u8>, Option<(u32, u8)>) {
+    (draws.flaw(i), draws.copy_bit(i), draws.back())
+}
+
+// The same, from draws of which nothing was asked before: one for the flaw, and one for the flips.
+fn asked_afresh(settings: &Settings, i: u32) -> (i32, Option<u8>, Option<(u32, u8)>) {
+    let flaw = Draws::new(settings, 1).flaw(i);
+    let mut fresh = Draws::new(settings, 1);
+    (flaw, fresh.copy_bit(i), fresh.back())
+}
+
+#[test]
+fn what_was_asked_before_changes_no_draw(rt: HostRuntime) {
+    for rate in [1, 2, 7] {
+        let settings = settings(RISING, rate);
+        let mut draws = Draws::new(&settings, 1);
+        for i in IN_TURN {
+            assert_eq!(rt;
+                asked_in_turn(&mut draws, i),
+                asked_afresh(&settings, i),
+                "instruction {i} rate {rate}"
+            );
+        }
+    }
+}
+
+// No word of these rows is 0 or the greatest number.
+#[test]
+fn nothing_is_drawn_at_no_rate_and_at_the_greatest(rt: HostRuntime) {
+    for (seed, q, i, _, _, _, _) in ROWS {
+        for rate in [0, u32::MAX] {
+            assert_eq!(rt;
+                drawn(&settings(seed, rate), q, i),
+                (None, 0, None),
+                "quantum {q} instruction {i} rate {rate}"
+            );
+        }
+    }
+}

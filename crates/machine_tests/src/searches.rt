@@ -1,0 +1,364 @@
+//! Searches in a small soup that counts the looks, and in one that has a row and counts none.
+
+ghost use Rattle.std.specs.Prelude.{◌≡◌, ◌≤◌, ◌<◌, IfOk, length};
+
+use std::alloc::{AllocError, Global};
+use std::marker::Model;
+use std::test::Fail;
+use template_search::{Found, Way, search};
+use tierra_model::View;
+
+#[derive(Drop)]
+struct Flat {
+    cells: Vec<u8>,
+    looks: u64,
+}
+
+impl Model for Flat {
+    ghost use Rattle.std.specs.Prelude.{List, ℕ, vec_len, ◌≤◌};
+
+    // what the cells hold, and how often they were looked at
+    ghost Value = { List ℕ × ℕ };
+
+    ghost view = { λ v. (v.cells.items, v.looks) };
+
+    ghost invariant = { λ v. vec_len v.cells ≤ 1048576 };
+}
+
+impl Flat {
+    fn put(&mut self, at: u32, value: u8)
+        ensures { length self.new.0 ≡ length self.old.0 }
+    {
+        if let Some(cell) = self.cells.get_mut(at as usize) {
+            *cell = value;
+        }
+    }
+}
+
+impl View for Flat {
+    ghost use Rattle.std.specs.Prelude.{◌+◌, ◌%◌, ◌^◌, true, length, slice_index, slice_set};
+    ghost use Rattle.std.proofs.Common.{arith, get_or-set_other, length-set, refl};
+    ghost use Rattle.std.proofs.lemmas.Grind.{get_or-set_at};
+    ghost use Rattle.std.proofs.lemmas.Bool.Decides.{nat_tests};
+
+    ghost size = { λ v. length v.0 };
+
+    ghost cells = { λ v p. slice_index v.0 p };
+
+    ghost writable = { λ v p. true };
+
+    ghost looked = { λ v p. (v.0, (v.1 + 1) % 2 ^ 64) };
+
+    ghost written = { λ v p x. (slice_set v.0 p x, v.1) };
+
+    ghost look_keeps_size = { λ v p. refl };
+
+    ghost look_keeps_cells = { λ v p q. refl };
+
+    ghost look_keeps_writable = { λ v p q. refl };
+
+    ghost write_keeps_size = { λ v p x _ _ _. length-set v.0 p x };
+
+    ghost write_sets_cell = { λ v p x q here _ _ there. Prim.grind
+        (arith, nat_tests, get_or-set_at, get_or-set_other) };
+
+    ghost write_keeps_writable = { λ v p x q _ _ _. refl };
+
+    fn size(&self) -> u32 {
+        self.cells.len() as u32
+    }
+
+    fn get(&mut self, at: u32) -> u8 {
+        self.looks = self.looks.wrapping_add(1);
+        self.cells[at as usize]
+    }
+
+    fn may_write(&self, at: u32) -> bool {
+        true
+    }
+
+    fn set(&mut self, at: u32, value: u8) {
+        self.cells[at as usize] = value;
+    }
+}
+
+/// The cells of such a soup, without a count of the looks.
+#[derive(Drop)]
+struct Plain {
+    cells: Vec<u8>,
+}
+
+impl Model for Plain {
+    ghost use Rattle.std.specs.Prelude.{List, ℕ, vec_len, ◌≤◌};
+
+    ghost Value = { List ℕ };
+
+    ghost view = { λ v. v.cells.items };
+
+    ghost invariant = { λ v. vec_len v.cells ≤ 1048576 };
+}
+
+impl View for Plain {
+    ghost use Rattle.std.specs.Prelude.{true, length, slice_index, slice_set};
+    ghost use Rattle.std.proofs.Common.{arith, get_or-set_other, length-set, refl};
+    ghost use Rattle.std.proofs.lemmas.Grind.{get_or-set_at};
+    ghost use Rattle.std.proofs.lemmas.Bool.Decides.{nat_tests};
+
+    ghost size = { λ v. length v };
+
+    ghost cells = { λ v p. slice_index v p };
+
+    ghost writable = { λ v p. true };
+
+    ghost looked = { λ v p. v };
+
+    ghost written = { λ v p x. slice_set v p x };
+
+    ghost look_keeps_size = { λ v p. refl };
+
+    ghost look_keeps_cells = { λ v p q. refl };
+
+    ghost look_keeps_writable = { λ v p q. refl };
+
+    ghost write_keeps_size = { λ v p x _ _ _. length-set v p x };
+
+    ghost write_sets_cell = { λ v p x q here _ _ there. Prim.grind
+        (arith, nat_tests, get_or-set_at, get_or-set_other) };
+
+    ghost write_keeps_writable = { λ v p x q _ _ _. refl };
+
+    fn size(&self) -> u32 {
+        self.cells.len() as u32
+    }
+
+    fn get(&mut self, at: u32) -> u8 {
+        self.cells[at as usize]
+    }
+
+    fn may_write(&self, at: u32) -> bool {
+        true
+    }
+
+    fn set(&mut self, at: u32, value: u8) {
+        self.cells[at as usize] = value;
+    }
+
+    fn row(&self) -> Option<&[u8]> {
+        Some(self.cells.as_slice())
+    }
+}
+
+// a soup of cells that hold 08, which is no nop, except for the cells listed
+fn soup(alloc: Global, size: u32, nops: &[(u32, u8)]) -> Result<Flat, AllocError>
+    requires { size ≤ 1048576 }
+    ensures { IfOk result (λ v. length v.0 ≡ size) }
+{
+    let cells = vec![in alloc; 8; size as usize]?;
+    let mut soup = Flat { cells, looks: 0 };
+    for (at, nop) in nops {
+        soup.put(*at, *nop);
+    }
+    Ok(soup)
+}
+
+// what a search finds in such a soup, and after how many looks; 0 looks if a search in a row finds something else
+fn find(
+    alloc: Global,
+    size: u32,
+    nops: &[(u32, u8)],
+    ip: u32,
+    way: Way,
+    limit: u32,
+    min: u32,
+) -> Result<(Found, u64), AllocError>
+    requires ip { ip < size }
+    requires size { size ≤ 1048576 }
+{
+    let mut soup = soup(alloc, size, nops)?;
+    let mut plain = Plain {
+        cells: soup.cells.clone()?,
+    };
+    let found = search(&mut soup, ip, way, limit, min);
+    let in_row = search(&mut plain, ip, way, limit, min);
+    Ok((found, if in_row == found { soup.looks } else { 0 }))
+}
+
+#[test]
+fn finds_the_nearest(rt: HostRuntime) -> Result<(), Fail> {
+    let alloc = rt.alloc();
+    let nops = &[(9, 0), (6, 1), (11, 1)];
+    let rows = [
+        (Way::Outward, 16, 1, (Found::At(12), 5)),
+        (Way::Backward, 16, 1, (Found::At(7), 4)),
+        (Way::Forward, 16, 1, (Found::At(12), 4)),
+        (Way::Outward, 1, 1, (Found::NoMatch, 4)),
+        (Way::Outward, 16, 2, (Found::Short, 2)),
+    ];
+    for (way, limit, min, want) in rows {
+        assert_eq!(rt; find(alloc, 16, nops, 8, way, limit, min)?, want);
+    }
+    assert_eq!(rt;
+        find(alloc, 16, &[(6, 1), (11, 1)], 8, Way::Outward, 16, 1)?,
+        (Found::Short, 1)
+    );
+    Ok(())
+}
+
+#[test]
+fn takes_ten_of_eleven_nops(rt: HostRuntime) -> Result<(), Fail> {
+    let nops = &[
+        (1, 0),
+        (2, 0),
+        (3, 0),
+        (4, 0),
+        (5, 0),
+        (6, 0),
+        (7, 0),
+        (8, 0),
+        (9, 0),
+        (10, 0),
+        (11, 0),
+        (20, 1),
+        (21, 1),
+        (22, 1),
+        (23, 1),
+        (24, 1),
+        (25, 1),
+        (26, 1),
+        (27, 1),
+        (28, 1),
+        (29, 1),
+    ];
+    assert_eq!(rt;
+        find(rt.alloc(), 100, nops, 0, Way::Outward, 50, 1)?,
+        (Found::At(30), 38)
+    );
+    Ok(())
+}
+
+#[test]
+fn goes_round_the_ring(rt: HostRuntime) -> Result<(), Fail> {
+    let alloc = rt.alloc();
+    let match_across = &[(3, 0), (4, 0), (99, 1), (0, 1)];
+    assert_eq!(rt;
+        find(alloc, 100, match_across, 2, Way::Backward, 50, 1)?,
+        (Found::At(1), 7)
+    );
+    let template_across = &[(99, 0), (0, 1), (50, 1), (51, 0)];
+    assert_eq!(rt;
+        find(alloc, 100, template_across, 98, Way::Outward, 50, 1)?,
+        (Found::At(52), 98)
+    );
+    assert_eq!(rt;
+        find(alloc, 100, template_across, 98, Way::Forward, 50, 1)?,
+        (Found::At(52), 54)
+    );
+    assert_eq!(rt;
+        find(alloc, 100, template_across, 98, Way::Forward, 49, 1)?,
+        (Found::NoMatch, 52)
+    );
+    let match_at_the_end = &[(9, 1), (15, 0)];
+    assert_eq!(rt;
+        find(alloc, 16, match_at_the_end, 8, Way::Forward, 6, 1)?,
+        (Found::At(0), 8)
+    );
+    Ok(())
+}
+
+#[test]
+fn goes_on_to_its_limit(rt: HostRuntime) -> Result<(), Fail> {
+    let alloc = rt.alloc();
+    let own_cell = &[(0, 1), (1, 0)];
+    assert_eq!(rt;
+        find(alloc, 5, own_cell, 0, Way::Forward, 12, 1)?,
+        (Found::At(1), 6)
+    );
+    assert_eq!(rt;
+        find(alloc, 5, own_cell, 0, Way::Forward, 3, 1)?,
+        (Found::NoMatch, 5)
+    );
+    assert_eq!(rt;
+        find(alloc, 5, &[(1, 0)], 0, Way::Outward, 12, 1)?,
+        (Found::NoMatch, 26)
+    );
+    assert_eq!(rt;
+        find(alloc, 1, &[(0, 0)], 0, Way::Outward, 3, 10)?,
+        (Found::NoMatch, 16)
+    );
+    assert_eq!(rt;
+        find(alloc, 1, &[], 0, Way::Outward, 3, 1)?,
+        (Found::Short, 1)
+    );
+    assert_eq!(rt;
+        find(alloc, 100, &[(1, 0)], 0, Way::Outward, 1048576, 1)?,
+        (Found::NoMatch, 2097154)
+    );
+    Ok(())
+}
+
+// what a search finds from cell 100 of 200 cells with runs of nops; a run is its place, its length and its nop
+fn find_in_runs(
+    alloc: Global,
+    runs: &[(u32, u32, u8)],
+    way: Way,
+    limit: u32,
+) -> Result<(Found, u64), AllocError> {
+    let mut nops = Vec::new(alloc);
+    for (start, count, nop) in runs {
+        for k in 0..*count {
+            nops.push((start.wrapping_add(k), *nop))?;
+        }
+    }
+    find(alloc, 200, &nops, 100, way, limit, 1)
+}
+
+#[test]
+fn compares_long_templates(rt: HostRuntime) -> Result<(), Fail> {
+    let alloc = rt.alloc();
+    let ten = &[(101, 10, 0), (120, 9, 1), (60, 10, 1)];
+    assert_eq!(rt;
+        find_in_runs(alloc, ten, Way::Outward, 90)?,
+        (Found::At(70), 171)
+    );
+    assert_eq!(rt;
+        find_in_runs(alloc, ten, Way::Forward, 90)?,
+        (Found::NoMatch, 145)
+    );
+    let nine = &[(101, 9, 0), (115, 8, 1), (70, 9, 1)];
+    assert_eq!(rt;
+        find_in_runs(alloc, nine, Way::Outward, 90)?,
+        (Found::At(79), 134)
+    );
+    let eight = &[(101, 8, 0), (115, 7, 1), (70, 8, 1)];
+    assert_eq!(rt;
+        find_in_runs(alloc, eight, Way::Outward, 90)?,
+        (Found::At(78), 118)
+    );
+    Ok(())
+}
+
+#[test]
+fn compares_short_templates(rt: HostRuntime) -> Result<(), Fail> {
+    let alloc = rt.alloc();
+    let three = &[
+        (101, 1, 0),
+        (102, 1, 1),
+        (103, 1, 0),
+        (130, 1, 1),
+        (131, 1, 0),
+        (132, 1, 1),
+    ];
+    assert_eq!(rt;
+        find_in_runs(alloc, three, Way::Outward, 90)?,
+        (Found::At(133), 59)
+    );
+    assert_eq!(rt;
+        find_in_runs(alloc, &[(101, 1, 1), (192, 1, 0)], Way::Forward, 90)?,
+        (Found::NoMatch, 92)
+    );
+    assert_eq!(rt;
+        find_in_runs(alloc, &[(101, 1, 1), (193, 1, 0)], Way::Outward, 95)?,
+        (Found::At(194), 185)
+    );
+    Ok(())
+}
