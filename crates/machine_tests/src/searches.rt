@@ -296,6 +296,44 @@ fn goes_on_to_its_limit(rt: HostRuntime) -> Result<(), Fail> {
     Ok(())
 }
 
+// the candidate at cell 10, a full circle ahead, is the only match
+#[test]
+fn finds_a_match_a_full_circle_away(rt: HostRuntime) -> Result<(), Fail> {
+    let nops = &[
+        (1, 0),
+        (2, 0),
+        (3, 0),
+        (4, 0),
+        (5, 0),
+        (6, 0),
+        (7, 0),
+        (8, 0),
+        (9, 0),
+        (10, 1),
+        (11, 1),
+        (12, 1),
+        (13, 1),
+        (14, 1),
+        (15, 1),
+        (16, 1),
+        (17, 1),
+        (18, 1),
+        (19, 0),
+    ];
+    let rows = [
+        (19, (Found::NoMatch, 65)),
+        (20, (Found::At(0), 75)),
+        (1048576, (Found::At(0), 75)),
+    ];
+    for (limit, want) in rows {
+        assert_eq!(rt;
+            find(rt.alloc(), 20, nops, 0, Way::Forward, limit, 1)?,
+            want
+        );
+    }
+    Ok(())
+}
+
 // what a search finds from cell 100 of 200 cells with runs of nops; a run is its place, its length and its nop
 fn find_in_runs(
     alloc: Global,

@@ -9,3 +9,6 @@ pub mod Distances
 pub mod Searching
 pub mod Telling
 pub mod Words
+pub mod Traceless
+pub mod Keeping
+pub mod Circling

@@ -5,6 +5,7 @@
 #![tactic(auto)]
 
 mod candidates;
+mod known;
 mod nearest;
 mod opening;
 mod places;

@@ -4,15 +4,19 @@ ghost use Rattle.std.specs.Prelude.{◌≡◌, ◌<◌, ◌≤◌, ◌+◌, ◌-
 ghost use Rattle.tierra_model.specs.declared.limits.TheConstants.{MOST_CELLS};
 ghost use Rattle.tierra_model.specs.Look.{Passes};
 ghost use Rattle.tierra_model.specs.Search.{candidates, try_each};
+ghost use Rattle.template_search.specs.Circle.{NoneInCircle};
 ghost use Rattle.template_search.specs.Openings.{IsOpening};
 ghost use Rattle.template_search.specs.Reaching.{Reaches};
 
 use crate::candidates::{Course, Pair, match_in_row, match_near};
+use crate::known::is_known;
 use crate::opening::Opening;
 use crate::places::{next_place, place_at, previous_place};
 use tierra_model::{View, Way};
 
-/// The nearest candidate that is a complement, at a distance of 1 to `limit`. Each `way` has a loop of its own.
+/// The nearest candidate that is a complement, at a distance of 1 to `limit`.
+///
+/// After a full circle the same candidates come again.
 pub fn nearest<V: View>(
     view: &mut V,
     nops: &[u8],
@@ -28,6 +32,34 @@ pub fn nearest<V: View>(
     ensures passes { Passes V.cells V.looked (try_each course.size nops.now
         (candidates course.size course.ip (length nops.now) course.way limit 1)) view.old view.new result }
     ensures below { IfSome result (λ p. p < course.size) }
+{
+    let circle = limit.min(course.size);
+    if let Some(start) = nearest_by_way(view, nops, opening, course, circle) {
+        return Some(start);
+    }
+    if circle == limit {
+        return None;
+    }
+    nearest_again(view, nops, course, limit)
+}
+
+// The nearest candidate at a distance of 1 to `limit`. Each `way` has a loop of its own.
+fn nearest_by_way<V: View>(
+    view: &mut V,
+    nops: &[u8],
+    opening: Opening,
+    course: Course,
+    limit: u32,
+) -> Option<u32>
+    requires opening { IsOpening nops.now opening }
+    requires ip { course.ip < course.size }
+    requires size { course.size ≡ V.size view.old }
+    requires cells { course.size ≤ MOST_CELLS }
+    requires short { length nops.now ≤ 10 }
+    ensures passes { Passes V.cells V.looked (try_each course.size nops.now
+        (candidates course.size course.ip (length nops.now) course.way limit 1)) view.old view.new result }
+    ensures below { IfSome result (λ p. p < course.size) }
+    ensures same { V.size view.new ≡ course.size }
 {
     match course.way {
         Way::Outward => nearest_on(
@@ -79,27 +111,35 @@ fn nearest_on<V: View>(
     ensures passes { Passes V.cells V.looked (try_each course.size nops.now
         (candidates course.size course.ip (length nops.now) course.way limit 1)) view.old view.new result }
     ensures below { IfSome result (λ p. p < course.size) }
+    ensures same { V.size view.new ≡ course.size }
 {
-    let size = course.size;
-    let len = nops.len() as u32;
-    let ahead = place_at(course.ip + (len + 1), size);
-    let behind = place_at(course.ip + 1 + (size - place_at(len + 1, size)), size);
-    let straight = straight_distances(view, Pair { ahead, behind }, limit);
-    if let Some(start) = nearest_straight(
-        view,
-        nops,
-        opening,
-        course,
-        Pair { ahead, behind },
-        straight,
-    ) {
+    let first = first_pair(course, nops.len() as u32);
+    let straight = straight_distances(view, first, limit);
+    if let Some(start) = nearest_straight(view, nops, opening, course, first, straight) {
         return Some(start);
     }
     let next = Pair {
-        ahead: ahead + straight,
-        behind: behind - straight,
+        ahead: first.ahead + straight,
+        behind: first.behind - straight,
     };
     nearest_round(view, nops, course, next, straight, limit)
+}
+
+// Where the candidates at distance 1 begin, for a template of `len` cells.
+#[inline(always)]
+fn first_pair(course: Course, len: u32) -> Pair
+    requires ip { course.ip < course.size }
+    requires cells { course.size ≤ MOST_CELLS }
+    requires len { len ≤ 10 }
+    ensures places { Reaches course.size course.ip len 1 result.ahead result.behind }
+    ensures ahead { result.ahead < course.size }
+    ensures behind { result.behind < course.size }
+{
+    let size = course.size;
+    Pair {
+        ahead: place_at(course.ip + (len + 1), size),
+        behind: place_at(course.ip + 1 + (size - place_at(len + 1, size)), size),
+    }
 }
 
 // How many distances, from these candidates on, can be tried in the view's row, eight cells at once and without going
@@ -177,6 +217,7 @@ fn nearest_round<V: View>(
         (candidates course.size course.ip (length nops.now) course.way (limit - tried) (tried + 1)))
         view.old view.new result }
     ensures below { IfSome result (λ p. p < course.size) }
+    ensures same { V.size view.new ≡ course.size }
 {
     let mut ahead = next.ahead;
     let mut behind = next.behind;
@@ -188,4 +229,25 @@ fn nearest_round<V: View>(
         behind = previous_place(behind, course.size);
     }
     None
+}
+
+// The search goes on after a full circle in which no candidate was a complement, and finds nothing. In a view whose
+// cells are all known its looks leave no trace either. Any other view may count them, and so is looked at again.
+#[inline(never)]
+fn nearest_again<V: View>(view: &mut V, nops: &[u8], course: Course, limit: u32) -> Option<u32>
+    requires ip { course.ip < course.size }
+    requires size { course.size ≡ V.size view.old }
+    requires cells { course.size ≤ MOST_CELLS }
+    requires short { length nops.now ≤ 10 }
+    requires limit { course.size ≤ limit }
+    requires none { NoneInCircle course.size (V.cells view.old) course.ip course.way nops.now }
+    ensures passes { Passes V.cells V.looked (try_each course.size nops.now (candidates course.size course.ip
+        (length nops.now) course.way (limit - course.size) (course.size + 1))) view.old view.new result }
+    ensures below { IfSome result (λ p. p < course.size) }
+{
+    if is_known(view) {
+        return None;
+    }
+    let first = first_pair(course, nops.len() as u32);
+    nearest_round(view, nops, course, first, course.size, limit)
 }

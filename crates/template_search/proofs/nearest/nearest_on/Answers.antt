@@ -1,5 +1,4 @@
-use Rattle.std.proofs.Common.{arith, length, rules}
-use Rattle.template_search.specs.Reaching.{Reaches}
+use Rattle.std.proofs.Common.{arith}
 use Rattle.template_search.proofs.Distances.{found_far, found_near}
 use Rattle.template_search.proofs.Reaching.{reaches_straight}
 use Rattle.template_search.proofs.nearest.nearest_on.Goals as goal
@@ -9,8 +8,7 @@ returns-in-Some-clause-passes g c = found_near _ _ _ _ _ _ _ _ c.straight_distan
 
 pub nearest_round-requires-clause-places : goal.nearest_round-requires-clause-places
 nearest_round-requires-clause-places g c =
-    let nearest : Reaches c.args.course.size c.args.course.ip (length c.args.nops.now) 1 c.place_at-ahead.result c.place_at-behind.result = search rules in
-    reaches_straight _ _ _ 1 _ _ c.straight_distances-straight.result (omega arith) (omega arith) (omega arith) nearest
+    reaches_straight _ _ _ 1 _ _ c.straight_distances-straight.result (omega arith) (omega arith) (omega arith) c.first_pair-first.ensures.places
 
 pub returns-clause-passes : goal.returns-clause-passes
 returns-clause-passes g c =
