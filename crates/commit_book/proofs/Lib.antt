@@ -1,4 +1,5 @@
 pub mod Working
+pub mod InPlace
 pub mod Recording
 pub mod GivingLemmas
 pub mod Stashes

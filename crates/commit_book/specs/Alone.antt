@@ -1,25 +1,20 @@
--- A book whose quanta caller 1 runs alone.
-use Rattle.std.specs.Prelude.{suc, zero, ℕ, ◌<◌, ◌≡◌, ◌≤◌}
-use Rattle.tierra_model.specs.Findings.{Finding, finding_of}
-use Rattle.tierra_model.specs.Scene.{scene_of}
-use Rattle.commit_book.specs.Book.{BookFields, with_finding, with_next, world_of}
+-- A book whose quanta caller 1 commits alone.
+use Rattle.std.specs.Prelude.{length, ℕ, ◌+◌, ◌<◌, ◌≡◌, ◌⊎◌}
+use Rattle.commit_book.specs.Book.{BookFields, after_commits, steps_of, world_of}
 
--- what the next quantum finds in the present world
-abbrev pub own_finding : BookFields → Finding
-own_finding b = finding_of (scene_of (world_of b))
+-- how many genotypes are saved
+abbrev pub number_saved : BookFields → ℕ
+number_saved b = length (world_of b).saved
 
--- the next quantum is committed by caller 1, whose finding was made in the present world
-abbrev pub with_own : BookFields → BookFields
-with_own b = with_next 1 (with_finding (own_finding b) b)
+-- the work pauses where all quanta are committed, or where more than `kept` genotypes are saved
+abbrev pub Pauses : ℕ → BookFields → Type 0
+Pauses kept b = (b.committed ≡ b.quanta) ⊎ (kept < number_saved b)
 
--- the next k quanta are committed so
-abbrev pub after_own : ℕ → BookFields → BookFields
-after_own zero b = b
-after_own (suc k) b = with_own (after_own k b)
-
--- the new book is the old one after some more quanta, at least one if any are left
-pub record WorksOn (old new : BookFields) : Type 0 where
+-- The new book is the old one after `done` more quanta, the least number after which the work pauses. Caller 1 committed
+-- them, and the counter went from t to u.
+pub record WorksOn (kept : ℕ) (old new : BookFields) (t u : ℕ) : Type 0 where
   pub done : ℕ
-  pub book : new ≡ after_own done old
-  pub some : old.committed < old.quanta → 1 ≤ done
-  pub few : new.committed ≤ new.quanta
+  pub book : new ≡ after_commits 1 done old
+  pub steps : u ≡ t + steps_of 1 done old
+  pub pauses : Pauses kept new
+  pub least : (k : ℕ) → k < done → Pauses kept (after_commits 1 k old) → ⊥

@@ -1,49 +1,54 @@
-//! Quanta that a book runs in its own world.
+//! Quanta that caller 1 commits alone.
 
-ghost use Rattle.std.specs.Prelude.{◌≡◌, ◌+◌, ◌++◌, ◌<◌, ◌∷◌, [], IfOk, None, OnOk, drop, length};
-ghost use Rattle.tierra_model.specs.declared.history.How.TheVariants as how;
-ghost use Rattle.tierra_model.specs.declared.limits.TheConstants.{MOST_QUANTA};
-ghost use Rattle.tierra_model.specs.Quantum.{quantum as quantum_of};
-ghost use Rattle.tierra_model.specs.Sound.{IsSound};
-ghost use Rattle.tierra_model.specs.World.{first_of};
-ghost use Rattle.commit_book.specs.Alone.{WorksOn};
+ghost use Rattle.std.specs.Prelude.{◌≡◌, ◌↔◌, ◌<◌, ◌⊎◌, IfOk, IsTrue, None, false, replicate};
+ghost use Rattle.commit_book.specs.Alone.{Pauses, WorksOn, number_saved};
 
-use crate::book::{Book, take_first};
+use crate::book::Book;
 use crate::commit::is_setup;
-use crate::gate::Gate;
-use crate::history::History;
 use crate::shown::Shown;
-use quantum_run::Finding;
 use serial_slicer::InPlace;
 use std::alloc::Global;
-use std::collections::VecDeque;
+use std::sync::ledger::Ledger;
+use step_count::Steps;
 use tierra_model::{How, OutOfMemory};
 
 impl Book {
-    /// Runs and commits quanta as caller 1, until one saves a genotype or all are committed. Each runs in the world
-    /// itself, and is committed like a fresh finding. The gate is called as for a job. If memory runs out, the book is
-    /// lost.
-    pub fn work_on<G: Gate>(self, alloc: Global, gate: &G) -> Result<Book, OutOfMemory>
-        ensures { IfOk result (WorksOn self) }
+    /// Commits quanta as caller 1, each as `advance` does, until one saves a genotype or all are committed. As long as
+    /// findings are kept, they are compared; the quanta after them run in the world itself. If memory runs out, the
+    /// book is lost.
+    pub fn work_on<L: Ledger>(
+        self,
+        alloc: Global,
+        steps: &mut Steps<L>,
+    ) -> Result<Book, OutOfMemory>
+        ensures { IfOk result (λ b. WorksOn (number_saved self) self b steps.old steps.new) }
+    {
+        let kept = self.world.kept();
+        let mut book = self;
+        'findings: while book.keeps_findings() && !book.pauses(kept) {
+            book.commit_next(alloc, 1, steps)?;
+        }
+        book.run_in_place(alloc, kept, steps)
+    }
+
+    // Runs the next quanta in the world itself, until the work pauses.
+    fn run_in_place<L: Ledger>(
+        self,
+        alloc: Global,
+        kept: u64,
+        steps: &mut Steps<L>,
+    ) -> Result<Book, OutOfMemory>
+        requires none { Pauses kept self ⊎ (self.stash ≡ replicate self.window None) }
+        ensures { IfOk result (λ b. WorksOn kept self b steps.old steps.new) }
     {
         is_setup(&self.setup);
         let mut committed = self.committed;
-        let mut stash = self.stash;
         let mut history = self.history;
-        let kept = self.world.kept();
         let mut run = InPlace::of(self.world)?;
-        let mut saved = false;
-        'quanta: while !saved && committed < self.quanta {
-            work_next(
-                alloc,
-                gate,
-                committed + 1,
-                &mut run,
-                &mut stash,
-                &mut history,
-            )?;
+        'quanta: while committed < self.quanta && run.kept() <= kept {
+            history.push(run.first(), 1, How::Missing)?;
+            run.next_counted(alloc, steps)?;
             committed += 1;
-            saved = run.kept() > kept;
         }
         let world = run.finish(alloc)?;
         Ok(Book {
@@ -52,7 +57,7 @@ impl Book {
             window: self.window,
             committed,
             handed: self.handed.max(committed),
-            stash,
+            stash: self.stash,
             stopped: self.stopped,
             history,
             world,
@@ -60,35 +65,24 @@ impl Book {
             workspace: self.workspace,
         })
     }
-}
 
-// Runs the next quantum, which has this number. A finding kept for it is dropped.
-fn work_next<G: Gate>(
-    alloc: Global,
-    gate: &G,
-    quantum: u64,
-    run: &mut InPlace,
-    stash: &mut VecDeque<Option<Finding>>,
-    history: &mut History,
-) -> Result<(), OutOfMemory>
-    requires sound { IsSound run.old }
-    requires more { run.old.quanta < MOST_QUANTA }
-    requires window { 0 < length stash.old.items }
-    ensures run { OnOk result (run.new ≡ quantum_of run.old) }
-    ensures stash { OnOk result (stash.new.items ≡ drop 1 stash.old.items ++ None ∷ []) }
-    ensures history { OnOk result (history.new
-        ≡ history.old ++ record {
-          quantum = length history.old + 1;
-          creature = first_of run.old.slicer;
-          by = 1;
-          how = how.Fresh;
-        } ∷ []) }
-{
-    gate.before(1, quantum);
-    history.push(run.first(), 1, How::Fresh)?;
-    run.next(alloc)?;
-    let _kept = take_first(stash);
-    stash.rotate_left(1);
-    gate.after(1, quantum);
-    Ok(())
+    // Whether all quanta are committed, or more than `kept` genotypes are saved.
+    fn pauses(&self, kept: u64) -> bool
+        ensures pauses { IsTrue result ↔ Pauses kept self.now }
+        ensures more { result ≡ false → self.now.committed < self.now.quanta }
+    {
+        self.committed == self.quanta || self.world.kept() > kept
+    }
+
+    // Whether any finding is kept.
+    fn keeps_findings(&self) -> bool
+        ensures { result ≡ false → self.now.stash ≡ replicate self.now.window None }
+    {
+        for place in 0..self.window as usize {
+            if self.stash[place].is_some() {
+                return true;
+            }
+        }
+        false
+    }
 }

@@ -23,7 +23,7 @@ bank-more setup a (suc k) =
     let next : a + suc k ≡ suc (a + k) = omega arith in
     (before.0 ++ group, ap (bank setup) next ∙ bank-suc setup (a + k) ∙ ap (λ l. l ++ group) before.1 ∙ append_assoc (bank setup a) before.0 group)
 
-run_bank-more : (setup : SetupFields) (c n : ℕ) → c ≤ n → (more : List GroupFields) × (run_bank setup n ≡ run_bank setup c ++ more)
+pub run_bank-more : (setup : SetupFields) (c n : ℕ) → c ≤ n → (more : List GroupFields) × (run_bank setup n ≡ run_bank setup c ++ more)
 run_bank-more setup c n h =
     let more = bank-more setup (c + 1) (n - c) in
     let sum : n + 1 ≡ (c + 1) + (n - c) = omega arith in

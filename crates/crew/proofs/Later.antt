@@ -1,15 +1,40 @@
--- A book whose quanta one worker runs alone is of the same run, and has committed as many more.
-use Rattle.std.proofs.Common.{◌≡◌, ℕ, zero, suc, ◌+◌, refl, arith}
-use Rattle.commit_book.specs.Alone.{after_own}
-use Rattle.commit_book.specs.Book.{BookFields}
+-- A book that worker 1 worked on alone is of the same run, and has committed more.
+use Rattle.std.proofs.Common.{◌≡◌, ℕ, zero, suc, ◌+◌, ◌<◌, refl, ◌∙◌, ap, arith, inl, inr}
+use Rattle.commit_book.specs.Alone.{WorksOn, number_saved}
+use Rattle.commit_book.specs.Book.{BookFields, after_commits}
 
-pub record IsLater (k : ℕ) (old new : BookFields) : Type 0 where
+record IsLater (k : ℕ) (old new : BookFields) : Type 0 where
   pub setup : new.setup ≡ old.setup
   pub quanta : new.quanta ≡ old.quanta
   pub committed : new.committed ≡ old.committed + k
 
-pub own-later : (k : ℕ) (b : BookFields) → IsLater k b (after_own k b)
-own-later zero b = record { setup = refl; quanta = refl; committed = omega arith }
-own-later (suc k) b =
-    let r = own-later k b in
+commits-later : (k : ℕ) (b : BookFields) → IsLater k b (after_commits 1 k b)
+commits-later zero b = record { setup = refl; quanta = refl; committed = omega arith }
+commits-later (suc k) b =
+    let r = commits-later k b in
     record { setup = r.setup; quanta = r.quanta; committed = omega (arith, r.committed) }
+
+pub record IsWorked (old new : BookFields) : Type 0 where
+  pub setup : new.setup ≡ old.setup
+  pub quanta : new.quanta ≡ old.quanta
+  pub more : old.committed < old.quanta → old.committed < new.committed
+
+-- it does not pause before it begins
+some_done : (old new : BookFields) (t u : ℕ) → WorksOn (number_saved old) old new t u → old.committed < old.quanta → old.committed < new.committed
+some_done old new t u w left = elim w.pauses [
+  | inl all ↦ omega (arith, left, all, (commits-later w.done old).quanta, ap (λ (b : BookFields). b.quanta) w.book)
+  | inr saved ↦ go w.done w.book saved
+]
+  where
+    go : (k : ℕ) → new ≡ after_commits 1 k old → number_saved old < number_saved new → old.committed < new.committed
+    go zero is h = absurd (let n : ⊥ = omega (arith, h, ap number_saved is) in n)
+    go (suc k) is h = omega (arith, ap (λ (b : BookFields). b.committed) is, (commits-later (suc k) old).committed)
+
+pub worked : (old new : BookFields) (t u : ℕ) → WorksOn (number_saved old) old new t u → IsWorked old new
+worked old new t u w =
+    let l = commits-later w.done old in
+    record {
+      setup = ap (λ (b : BookFields). b.setup) w.book ∙ l.setup;
+      quanta = ap (λ (b : BookFields). b.quanta) w.book ∙ l.quanta;
+      more = some_done old new t u w;
+    }

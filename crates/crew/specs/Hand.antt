@@ -1,8 +1,9 @@
 -- What a hand is given, and what it answers.
-use Rattle.std.specs.Prelude.{ℕ, ◌≡◌, ◌+◌, ◌<◌, ◌≤◌, List, drop, length, take}
+use Rattle.std.specs.Prelude.{Err, List, Ok, Result, drop, length, take, ℕ, ◌+◌, ◌≡◌, ◌<◌, ◌≤◌}
 use Rattle.tierra_model.specs.Genebank.{bank}
 use Rattle.tierra_model.specs.Groups.{GroupFields}
-use Rattle.tierra_model.specs.Setups.{SetupFields}
+use Rattle.tierra_model.specs.Serial.{serial}
+use Rattle.tierra_model.specs.Setups.{IsSetup, SetupFields}
 use Rattle.crew.specs.declared.hand.Next.{Next}
 use Rattle.crew.specs.declared.hand.Next.TheVariants as next
 
@@ -26,6 +27,20 @@ AreNext setup n k groups = groups ≡ take (length groups) (drop k (run_bank set
 abbrev pub HaltsBy : Next → ℕ → Type 0
 HaltsBy next.Go halts = halts ≡ 0
 HaltsBy next.Halt halts = 0 < halts
+
+-- the hand has all groups of the first n quanta
+abbrev pub HasGroups : SetupFields → ℕ → ℕ → Type 0
+HasGroups setup n done = length (run_bank setup n) ≤ done
+
+-- the hand has all groups of those of the first n quanta by which no more than `kept` genotypes are saved
+abbrev pub HasGroupsOf : SetupFields → ℕ → ℕ → ℕ → Type 0
+HasGroupsOf setup n kept done =
+    IsSetup setup → (m : ℕ) → m ≤ n → length (serial setup m).saved ≤ kept → HasGroups setup m done
+
+-- it has halted exactly where the answer is Halt
+abbrev pub HandsBy : {E : Type 0} → Result Next E → ℕ → Type 0
+HandsBy (Ok next) halts = HaltsBy next halts
+HandsBy (Err e) halts = halts ≡ 0
 
 -- a hand of the run, which has not halted
 pub record IsUnhalted (run : SetupFields × ℕ) (setup : SetupFields) (quanta done halts : ℕ) (Can : Type 0) : Type 0 where

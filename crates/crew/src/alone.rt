@@ -1,20 +1,25 @@
-//! A run by one worker, or the rest of a run when the other workers have ended.
+//! The part of a run that worker 1 does by itself.
 
-ghost use Rattle.std.specs.Prelude.{◌≡◌, ◌<◌, ◌≤◌, IfOk, length, true};
-ghost use Rattle.crew.specs.Hand.{IsUnhalted, run_bank};
+ghost use Rattle.std.specs.Prelude.{◌≡◌, ◌<◌, ◌≤◌, ℕ, IfOk, length, true};
+ghost use Rattle.commit_book.specs.Alone.{WorksOn, number_saved};
+ghost use Rattle.crew.specs.Hand.{HasGroups, IsUnhalted, run_bank};
 ghost use Rattle.crew.specs.declared.runs.Ran.TheVariants.{Halted};
 ghost use Rattle.crew.specs.Ran.{HaltsAsIn, IfEnded, IfHalted};
 
 use crate::hand::{Hand, Next};
-use crate::handing::{hand_over, new_groups};
+use crate::handing::hand_all;
 use crate::runs::Ran;
-use commit_book::{Book, Gate};
+use commit_book::Book;
 use std::alloc::Global;
+use std::marker::Brand;
+use std::sync::ledger::{Blank, Ledger};
+use step_count::Steps;
 use tierra_model::OutOfMemory;
 
 /// Runs a book to its end with one worker. As nobody else changes the world, each quantum is run in the world itself.
-/// The groups are handed over as they come.
-pub(crate) fn run_alone<G: Gate, H: Hand>(alloc: Global, book: Book, gate: &G, hand: &mut H) -> Ran
+/// The groups of a quantum are handed over before the next one is run. Those that were handed over when memory runs out
+/// stay handed over.
+pub(crate) fn run_alone<H: Hand>(alloc: Global, book: Book, hand: &mut H) -> Ran
     requires hand { IsUnhalted (book.setup, book.quanta) (H.setup hand.old) (H.quanta hand.old)
         (H.done hand.old) (H.halts hand.old) (H.can_put hand.old) }
     ensures ended { IfEnded result (λ b. (b.setup ≡ book.setup) × (b.quanta ≡ book.quanta) × (b.committed ≡ b.quanta)) }
@@ -26,47 +31,45 @@ pub(crate) fn run_alone<G: Gate, H: Hand>(alloc: Global, book: Book, gate: &G, h
 {
     let mut book = book;
     'savings: while book.committed() < book.quanta() {
-        let groups = new_groups(alloc, &book, hand.done()).ok();
-        if hand_over(hand, groups) == Next::Halt {
-            return halted(book);
+        match hand_all(alloc, &book, hand) {
+            Ok(Next::Go) => {}
+            Ok(Next::Halt) => return halted(book),
+            Err(_) => return Ran::OutOfMemory,
         }
-        let Ok(worked) = work_on(alloc, book, gate) else {
+        let Ok(worked) = work_on(alloc, book, hand) else {
             return Ran::OutOfMemory;
         };
         book = worked;
     }
-    hand_rest(alloc, book, hand)
+    match hand_all(alloc, &book, hand) {
+        Ok(Next::Go) => Ran::Ended(book),
+        Ok(Next::Halt) => halted(book),
+        Err(_) => Ran::OutOfMemory,
+    }
 }
 
-// Runs and commits quanta until one saves a genotype or all are committed; at least one, where some are left.
-fn work_on<G: Gate>(alloc: Global, book: Book, gate: &G) -> Result<Book, OutOfMemory>
-    ensures run { IfOk result (λ b. (b.setup ≡ book.setup) × (b.quanta ≡ book.quanta)) }
-    ensures more { IfOk result (λ b. book.committed < book.quanta → book.committed < b.committed) }
+// Commits quanta until one saves a genotype or all are committed. (The hand stands here for the contract alone: it has
+// all groups before a quantum is run.)
+fn work_on<H: Hand>(alloc: Global, book: Book, hand: &H) -> Result<Book, OutOfMemory>
+    requires groups { HasGroups book.setup book.committed (H.done hand.now) }
+    ensures works { IfOk result (λ b. (u : ℕ) × WorksOn (number_saved book) book b 0 u) }
     ensures few { IfOk result (λ b. b.committed ≤ b.quanta) }
 {
-    let worked = book.work_on(alloc, gate)?;
+    let worked = counted_work::<Brand>(alloc, book, Blank::new(1))?;
+    let _committed = worked.committed();
     Ok(worked)
 }
 
-// Hands over all groups that are left, where the book has committed all its quanta.
-fn hand_rest<H: Hand>(alloc: Global, book: Book, hand: &mut H) -> Ran
-    requires all { book.committed ≡ book.quanta }
-    requires hand { IsUnhalted (book.setup, book.quanta) (H.setup hand.old) (H.quanta hand.old)
-        (H.done hand.old) (H.halts hand.old) (H.can_put hand.old) }
-    ensures ended { IfEnded result (λ b. b ≡ book) }
-    ensures all_put { IfEnded result (λ b. H.done hand.new ≡ length (run_bank book.setup book.quanta)) }
-    ensures halted { IfHalted result (λ b. b ≡ record book { stopped = true }) }
-    ensures halts { HaltsAsIn result (H.halts hand.new) }
-    ensures run { (H.setup hand.new ≡ H.setup hand.old) × (H.quanta hand.new ≡ H.quanta hand.old) }
-    ensures later { H.goes_to hand.old hand.new }
+// The same, with an account of the instructions that only contracts see.
+fn counted_work<L: Ledger>(alloc: Global, book: Book, blank: Blank) -> Result<Book, OutOfMemory>
+    requires name { blank.name ≡ L.name }
+    requires parts { blank.parts ≡ L.parts }
+    requires some { 0 < L.parts }
+    ensures { IfOk result (λ b. (u : ℕ) × WorksOn (number_saved book) book b 0 u) }
 {
-    let Ok(groups) = new_groups(alloc, &book, hand.done()) else {
-        return Ran::OutOfMemory;
-    };
-    match hand.put(groups) {
-        Next::Go => Ran::Ended(book),
-        Next::Halt => halted(book),
-    }
+    let mut steps = Steps::<L>::start(blank);
+    let worked = book.work_on(alloc, &mut steps)?;
+    Ok(worked)
 }
 
 /// Stops a book whose hand halted.

@@ -1,36 +1,59 @@
 //! Groups of the genebank on their way from the book to the hand.
 
-ghost use Rattle.std.specs.Prelude.{◌≡◌, ◌≤◌, IfOk, IfSome, drop, length};
-ghost use Rattle.crew.specs.Hand.{AreNext, HaltsBy, run_bank};
+ghost use Rattle.std.specs.Prelude.{◌≡◌, ◌+◌, ◌≤◌, IfOk, IfSome, None, OnErr, drop, length, max};
+ghost use Rattle.tierra_model.specs.declared.limits.TheConstants.{MOST_QUANTA};
+ghost use Rattle.tierra_model.specs.Setups.{IsSetup};
+ghost use Rattle.crew.specs.Hand.{AreNext, HandsBy, HaltsBy, HasGroupsOf, IsUnhalted, OnGo, run_bank};
 
 use crate::hand::{Hand, Next};
 use commit_book::Book;
 use std::alloc::Global;
 use tierra_model::{Groups, OutOfMemory};
 
+// Does nothing: its contract is what the type of a book keeps of its run.
+fn is_run(book: &Book)
+    ensures setup { IsSetup book.now.setup }
+    ensures committed { book.now.committed ≤ book.now.quanta }
+    ensures few { book.now.quanta ≤ MOST_QUANTA }
+{
+    let _settings = &book.setup().settings;
+    let _committed = book.committed();
+    let _quanta = book.quanta();
+}
+
 // The groups of the book's world from place `done` on.
-pub(crate) fn new_groups(alloc: Global, book: &Book, done: u64) -> Result<Groups, OutOfMemory>
+fn new_groups(alloc: Global, book: &Book, done: u64) -> Result<Groups, OutOfMemory>
     ensures groups { IfOk result (λ g. g ≡ drop done (run_bank book.now.setup book.now.committed)) }
     ensures next { IfOk result (AreNext book.now.setup book.now.quanta done) }
 {
-    let _soup_size = book.setup().settings.soup_size;
-    let _committed = book.committed();
-    let _quanta = book.quanta();
+    is_run(book);
     book.groups_from(alloc, done)
 }
 
-// The same groups, where the world has saved more than `kept` genotypes and there is memory for them. Then `kept`
-// becomes the number that it has saved.
-pub(crate) fn groups_since(alloc: Global, book: &Book, done: u64, kept: &mut u64) -> Option<Groups>
-    ensures { IfSome result (AreNext book.now.setup book.now.quanta done) }
+// The same groups. If the world has saved no more than `kept` genotypes, there are none. Else `kept` becomes the number
+// that it has saved.
+pub(crate) fn groups_since(
+    alloc: Global,
+    book: &Book,
+    done: u64,
+    kept: &mut u64,
+) -> Result<Groups, OutOfMemory>
+    requires { HasGroupsOf book.now.setup book.now.quanta kept.old done }
+    ensures groups { IfOk result (λ g. g ≡ drop done (run_bank book.now.setup book.now.committed)) }
+    ensures next { IfOk result (AreNext book.now.setup book.now.quanta done) }
+    ensures kept { IfOk result (λ g. HasGroupsOf book.now.setup book.now.quanta kept.new (done + length g)) }
+    ensures refused { OnErr result (kept.new ≡ kept.old) }
 {
+    is_run(book);
     let saved = book.world().kept();
     if saved <= *kept {
-        return None;
+        return Ok(Groups {
+            items: Vec::new(alloc),
+        });
     }
-    let groups = new_groups(alloc, book, done).ok()?;
+    let groups = new_groups(alloc, book, done)?;
     *kept = saved;
-    Some(groups)
+    Ok(groups)
 }
 
 // Hands the groups over, if there are any.
@@ -42,6 +65,8 @@ pub(crate) fn hand_over<H: Hand>(hand: &mut H, groups: Option<Groups>) -> Next
     ensures setup { H.setup hand.new ≡ H.setup hand.old }
     ensures quanta { H.quanta hand.new ≡ H.quanta hand.old }
     ensures halts { HaltsBy result (H.halts hand.new) }
+    ensures done { IfSome groups (λ g. H.halts hand.new ≡ 0 → H.done hand.new ≡ H.done hand.old + length g) }
+    ensures none { groups ≡ None → H.done hand.new ≡ H.done hand.old }
     ensures within { H.halts hand.new ≡ 0 → H.done hand.new ≤ length (run_bank (H.setup hand.new) (H.quanta hand.new)) }
     ensures can { H.halts hand.new ≡ 0 → H.can_put hand.new }
     ensures later { H.goes_to hand.old hand.new }
@@ -50,4 +75,24 @@ pub(crate) fn hand_over<H: Hand>(hand: &mut H, groups: Option<Groups>) -> Next
         Some(groups) => hand.put(groups),
         None => Next::Go,
     }
+}
+
+// Hands over all groups of the book's world from the hand's place on.
+pub(crate) fn hand_all<H: Hand>(
+    alloc: Global,
+    book: &Book,
+    hand: &mut H,
+) -> Result<Next, OutOfMemory>
+    requires hand { IsUnhalted (book.now.setup, book.now.quanta) (H.setup hand.old) (H.quanta hand.old)
+        (H.done hand.old) (H.halts hand.old) (H.can_put hand.old) }
+    ensures setup { H.setup hand.new ≡ H.setup hand.old }
+    ensures quanta { H.quanta hand.new ≡ H.quanta hand.old }
+    ensures halts { HandsBy result (H.halts hand.new) }
+    ensures groups { IfOk result (λ next. OnGo next
+        (H.done hand.new ≡ max (H.done hand.old) (length (run_bank book.now.setup book.now.committed)))) }
+    ensures can { IfOk result (λ next. OnGo next (H.can_put hand.new)) }
+    ensures later { H.goes_to hand.old hand.new }
+{
+    let groups = new_groups(alloc, book, hand.done())?;
+    Ok(hand.put(groups))
 }

@@ -8,11 +8,12 @@ ghost use Rattle.crew.specs.Ran.{HaltsAsIn, IfEnded, IfHalted};
 ghost use Rattle.crew.specs.Works.{IsFirst, IsOther, IsThere, SpeaksFrom};
 
 use crate::alone::{halted, run_alone};
+use crate::gate::Gate;
 use crate::hand::{Hand, Next};
 use crate::lead::{Led, lead};
-use crate::trial::Trial;
+use crate::trial::Stay;
 use crate::worker::work_while;
-use commit_book::{Book, Gate};
+use commit_book::Book;
 use std::alloc::Global;
 use std::sync::Wait;
 use std::thread::{Threads, join_mut};
@@ -37,7 +38,7 @@ fn work_with<R: Wait, G: Gate>(
     caller: u32,
     seat: &mut Option<Seat>,
     gate: &G,
-    trial: &Trial,
+    stay: Stay,
 ) -> Seat
     requires { IsThere seat.old (IsOther lock.now caller) }
     ensures { IsOther lock.now caller (record result { turns = 0 }) }
@@ -45,7 +46,7 @@ fn work_with<R: Wait, G: Gate>(
     let Some(seat) = seat.take() else {
         unreachable!()
     };
-    work_while(rt, alloc, lock, seat, gate, trial)
+    work_while(rt, alloc, lock, seat, gate, stay)
 }
 
 /// A seat for the next caller, split off from the seat of worker 1.
@@ -68,7 +69,7 @@ fn crew_from<R: Threads + Wait + Sync, G: Gate + Sync, H: Hand>(
     caller: u32,
     workers: u32,
     gate: &G,
-    trial: &Trial,
+    stay: Stay,
     hand: &mut H,
 ) -> Led
     requires seat { IsThere first.old (IsFirst lock.now caller) }
@@ -83,10 +84,10 @@ fn crew_from<R: Threads + Wait + Sync, G: Gate + Sync, H: Hand>(
         unreachable!()
     };
     if caller > workers {
-        return lead(rt, alloc, lock, seat, gate, trial, hand);
+        return lead(rt, alloc, lock, seat, gate, stay, hand);
     }
     let Ok(other) = seat_for(lock, &mut seat, caller) else {
-        return lead(rt, alloc, lock, seat, gate, trial, hand);
+        return lead(rt, alloc, lock, seat, gate, stay, hand);
     };
     let mut theirs = Some(other);
     let mut mine = Some(seat);
@@ -95,7 +96,7 @@ fn crew_from<R: Threads + Wait + Sync, G: Gate + Sync, H: Hand>(
         &mut || -> Seat
             requires { (IsSync R.row × IsSync G.row) × IsThere theirs (IsOther lock.now caller) }
             ensures { IsOther lock.entry.now caller (record result { turns = 0 }) }
-        { work_with(rt, alloc, lock, caller, &mut theirs, gate, trial) },
+        { work_with(rt, alloc, lock, caller, &mut theirs, gate, stay) },
         &mut || -> Led
             requires { (IsSync R.row × IsSync G.row) × IsThere mine (IsFirst lock.now (caller + 1))
                 × ((2 ≤ caller) × (caller ≤ workers) × (workers ≤ MOST_WORKERS))
@@ -114,7 +115,7 @@ fn crew_from<R: Threads + Wait + Sync, G: Gate + Sync, H: Hand>(
                 caller + 1,
                 workers,
                 gate,
-                trial,
+                stay,
                 hand,
             )
         },
@@ -156,20 +157,15 @@ pub fn run_crew<R: Threads + Wait + Sync, G: Gate + Sync, H: Hand>(
     ensures later { H.goes_to hand.old hand.new }
 {
     let _committed = book.committed();
-    if workers == 1 {
-        return run_alone(alloc, book, gate, hand);
-    }
     let Ok((lock, first)) = TurnLock::of(alloc, book) else {
         return Ran::OutOfMemory;
     };
     let mut first = Some(first);
-    let trial = Trial::new();
-    let Led { seat, next } = crew_from(
-        rt, alloc, &lock, &mut first, 2, workers, gate, &trial, hand,
-    );
+    let stay = Stay::WhileTaken { workers };
+    let Led { seat, next } = crew_from(rt, alloc, &lock, &mut first, 2, workers, gate, stay, hand);
     let book = lock.close(seat);
     match next {
-        Next::Go => run_alone(alloc, book, gate, hand),
+        Next::Go => run_alone(alloc, book, hand),
         Next::Halt => halted(book),
     }
 }

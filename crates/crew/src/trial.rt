@@ -1,61 +1,55 @@
-//! Whether jobs are long enough for workers.
+//! How long a crew takes jobs.
 
-use quantum_run::Job;
-use std::sync::atomic::{AtomicBool, AtomicU32, AtomicU64, Ordering};
+ghost use Rattle.std.specs.Prelude.{◌↔◌, IsTrue};
+ghost use Rattle.crew.specs.Trial.{Stays, TakesJobs};
 
-/// How many jobs make a trial.
-const JOBS: u32 = 100;
+use commit_book::Book;
+use slicer_queue::slice_of;
 
-/// How many instructions the trial's jobs must have on average for workers to go on. With fewer, several workers took
-/// as long as one, or longer.
-const WORTH: u64 = 3000;
+/// How many quanta of each run go through jobs.
+pub const TRIAL_QUANTA: u64 = 256;
 
-/// A count of the workers' first jobs, which all workers share. Where these jobs are too short to be worth their turns,
-/// all workers end.
-#[derive(Drop)]
-pub(crate) struct Trial {
-    jobs: AtomicU32,
-    instructions: AtomicU64,
-    has_failed: AtomicBool,
+/// Fewer go through jobs if the creatures that these show, all jobs together, reach this number. A job that shows
+/// 28,000 creatures takes 2 ms.
+pub const MOST_SHOWN: u128 = 500_000;
+
+/// How many instructions a slice must have for several workers to go on with jobs. With fewer, several workers took as
+/// long as one, or longer.
+pub const WORTH: u32 = 3000;
+
+/// Whether a crew takes jobs, once so many quanta are committed, while so many creatures live, with slices of so many
+/// instructions.
+pub fn takes_jobs(workers: u32, committed: u64, living: u32, slice: u32) -> bool
+    ensures { IsTrue result ↔ TakesJobs workers committed living slice }
+{
+    let shown = u128::from(committed) * u128::from(living);
+    let is_trial = committed < TRIAL_QUANTA && shown < MOST_SHOWN;
+    let is_worth = workers > 1 && slice >= WORTH;
+    is_trial || is_worth
 }
 
-impl Trial {
-    pub(crate) fn new() -> Trial {
-        Trial::after(0)
-    }
+/// How long a worker stays at the book.
+#[derive(Clone, Copy, Debug, Drop)]
+pub(crate) enum Stay {
+    /// To the end of the run.
+    ToTheEnd,
+    /// While a crew of this many workers takes jobs.
+    WhileTaken { workers: u32 },
+}
 
-    /// The trial of workers that go on whatever their jobs are.
-    pub(crate) fn passed() -> Trial {
-        Trial::after(JOBS)
-    }
-
-    // A trial in which this many jobs were counted.
-    fn after(jobs: u32) -> Trial {
-        Trial {
-            jobs: AtomicU32::new(jobs),
-            instructions: AtomicU64::new(0),
-            has_failed: AtomicBool::new(false),
-        }
-    }
-
-    /// The job, if its worker goes on with it.
-    pub(crate) fn admit(&self, job: Option<Job>) -> Option<Job> {
-        let job = job?;
-        if self.jobs.load(Ordering::Relaxed) < JOBS {
-            self.count(u64::from(job.slice()));
-        }
-        if self.has_failed.load(Ordering::Relaxed) {
-            return None;
-        }
-        Some(job)
-    }
-
-    // Counts a job. The worker that counts the last one decides for all.
-    fn count(&self, slice: u64) {
-        self.instructions.fetch_add(slice, Ordering::Relaxed);
-        if self.jobs.fetch_add(1, Ordering::Relaxed) == JOBS - 1 {
-            let is_enough = self.instructions.load(Ordering::Relaxed) >= u64::from(JOBS) * WORTH;
-            self.has_failed.store(!is_enough, Ordering::Relaxed);
+impl Stay {
+    /// Whether the worker takes another job of the book. The slice is that of a creature of average size.
+    pub(crate) fn goes_on(self, book: &Book) -> bool
+        ensures { IsTrue result ↔ Stays self book.now }
+    {
+        match self {
+            Stay::ToTheEnd => true,
+            Stay::WhileTaken { workers } => {
+                let world = book.world();
+                let living = world.living();
+                let slice = slice_of(world.filled() / living.max(1), world.settings());
+                takes_jobs(workers, book.committed(), living, slice)
+            }
         }
     }
 }

@@ -1,10 +1,11 @@
 //! What a worker does with the book while it has it.
 
-ghost use Rattle.std.specs.Prelude.{◌≡◌, ◌<◌, ◌≤◌, ◌^◌};
+ghost use Rattle.std.specs.Prelude.{◌≡◌, ◌<◌, ◌≤◌, ◌^◌, IsSome, IsTrue, false, true};
 ghost use Rattle.tierra_model.specs.declared.limits.TheConstants.{MOST_QUANTA, MOST_WORKERS};
 ghost use Rattle.commit_book.specs.Giving.{MayGive};
 ghost use Rattle.crew.specs.Works.{HasWorked};
 
+use crate::trial::Stay;
 use commit_book::{Advanced, Book, Claim};
 use quantum_run::{Finding, Job, Workspace};
 use std::alloc::Global;
@@ -12,7 +13,6 @@ use std::marker::Brand;
 use std::sync::Wait;
 use std::sync::ledger::{Blank, Ledger};
 use step_count::Steps;
-use tierra_model::{Groups, OutOfMemory};
 use turn_lock::{Seat, TurnLock};
 
 // The finding of a job, where there is memory for it.
@@ -30,37 +30,63 @@ fn counted_finding<L: Ledger>(workspace: &mut Workspace, job: Job, blank: Blank)
     workspace.complete(job, &mut steps).ok()
 }
 
-// Offers the finding, if there is one, and gives the next job, if there is one.
+// What a worker's turn gave it.
+#[derive(Drop)]
+pub(crate) struct Served {
+    // Whether its finding was offered.
+    pub offered: bool,
+    pub job: Option<Job>,
+}
+
+// Offers the finding, if there is one, and gives the next job, if there is one to take. A stopped book is left as it is.
 pub(crate) fn serve(
     alloc: Global,
     book: &mut Book,
     by: u32,
+    stay: Stay,
     finding: Option<Finding>,
-) -> Option<Job>
+) -> Served
     requires by { (1 ≤ by) × (by ≤ MOST_WORKERS) }
-    ensures { MayGive by book.old book.new }
+    ensures gives { MayGive by book.old book.new }
+    ensures stopped { book.old.stopped ≡ true → book.new ≡ book.old }
+    ensures offered { IsTrue result.offered → (book.old.stopped ≡ false) × IsSome finding }
 {
-    counted_serve::<Brand>(alloc, book, by, finding, Blank::new(1))
+    if book.is_stopped() {
+        return Served {
+            offered: false,
+            job: None,
+        };
+    }
+    counted_serve::<Brand>(alloc, book, by, stay, finding, Blank::new(1))
 }
 
+// The same with a book that is not stopped, and an account of the instructions that only contracts see.
 fn counted_serve<L: Ledger>(
     alloc: Global,
     book: &mut Book,
     by: u32,
+    stay: Stay,
     finding: Option<Finding>,
     blank: Blank,
-) -> Option<Job>
+) -> Served
     requires by { (1 ≤ by) × (by ≤ MOST_WORKERS) }
     requires name { blank.name ≡ L.name }
     requires parts { blank.parts ≡ L.parts }
     requires some { 0 < L.parts }
-    ensures { MayGive by book.old book.new }
+    ensures gives { MayGive by book.old book.new }
+    ensures offered { IsTrue result.offered → IsSome finding }
 {
     let mut steps = Steps::<L>::start(blank);
+    let offered = finding.is_some();
     if let Some(finding) = finding {
         book.offer(alloc, finding, by, &mut steps);
     }
-    next_job(alloc, book, by, &mut steps)
+    let job = if stay.goes_on(book) {
+        next_job(alloc, book, by, &mut steps)
+    } else {
+        None
+    };
+    Served { offered, job }
 }
 
 // The next job. Where as many jobs are handed out as may be, quanta are committed until there is one.
@@ -86,7 +112,7 @@ fn next_job<L: Ledger>(alloc: Global, book: &mut Book, by: u32, steps: &mut Step
 #[derive(Drop)]
 pub(crate) struct Turned {
     pub seat: Seat,
-    pub job: Option<Job>,
+    pub served: Served,
     pub quanta: u64,
 }
 
@@ -96,6 +122,7 @@ pub(crate) fn turn<R: Wait>(
     alloc: Global,
     lock: &TurnLock<Book>,
     seat: Seat,
+    stay: Stay,
     finding: Option<Finding>,
 ) -> Turned
     requires lock { seat.lock ≡ lock.now }
@@ -107,7 +134,11 @@ pub(crate) fn turn<R: Wait>(
     let caller = seat.caller();
     let (turn, mut book) = lock.take(rt, seat);
     let quanta = book.quanta();
-    let job = serve(alloc, &mut book, caller, finding);
+    let served = serve(alloc, &mut book, caller, stay, finding);
     let seat = lock.give(turn, book);
-    Turned { seat, job, quanta }
+    Turned {
+        seat,
+        served,
+        quanta,
+    }
 }

@@ -3,9 +3,10 @@
 ghost use Rattle.std.specs.Prelude.{◌≡◌, ◌+◌, ◌*◌, ◌<◌, ◌^◌, is_some};
 ghost use Rattle.crew.specs.Works.{HasWorked};
 
-use crate::trial::Trial;
+use crate::gate::Gate;
+use crate::trial::Stay;
 use crate::turns::{Turned, finding_of, turn};
-use commit_book::{Book, Gate};
+use commit_book::Book;
 use quantum_run::{Job, Workspace};
 use std::alloc::Global;
 use std::sync::Wait;
@@ -19,6 +20,7 @@ fn round<R: Wait, G: Gate>(
     seat: Seat,
     gate: &G,
     workspace: &mut Workspace,
+    stay: Stay,
     job: Job,
 ) -> Turned
     requires lock { seat.lock ≡ lock.now }
@@ -29,9 +31,8 @@ fn round<R: Wait, G: Gate>(
     let quantum = job.quantum();
     gate.before(worker, quantum);
     let finding = finding_of(workspace, job);
-    let offers = finding.is_some();
-    let turned = turn(rt, alloc, lock, seat, finding);
-    if offers {
+    let turned = turn(rt, alloc, lock, seat, stay, finding);
+    if turned.served.offered {
         gate.after(worker, quantum);
     }
     turned
@@ -49,17 +50,17 @@ pub fn work<R: Wait, G: Gate>(
     requires room { seat.turns < 2 ^ 39 }
     ensures worked { HasWorked (2 * lock.now.opening.setup.1 + 2) seat result }
 {
-    work_while(rt, alloc, lock, seat, gate, &Trial::passed())
+    work_while(rt, alloc, lock, seat, gate, Stay::ToTheEnd)
 }
 
-/// Does the same, but also ends where the trial has failed.
+/// Takes turns, and runs the jobs that it gets in them, until it gets none or does not stay.
 pub(crate) fn work_while<R: Wait, G: Gate>(
     rt: &R,
     alloc: Global,
     lock: &TurnLock<Book>,
     seat: Seat,
     gate: &G,
-    trial: &Trial,
+    stay: Stay,
 ) -> Seat
     requires lock { seat.lock ≡ lock.now }
     requires room { seat.turns < 2 ^ 39 }
@@ -68,16 +69,16 @@ pub(crate) fn work_while<R: Wait, G: Gate>(
     let mut workspace = Workspace::new(alloc);
     let Turned {
         mut seat,
-        mut job,
+        mut served,
         quanta,
-    } = turn(rt, alloc, lock, seat, None);
+    } = turn(rt, alloc, lock, seat, stay, None);
     for _ in 0..2 * quanta + 1 {
-        let Some(this) = trial.admit(job) else {
+        let Some(job) = served.job else {
             break;
         };
-        let turned = round(rt, alloc, lock, seat, gate, &mut workspace, this);
+        let turned = round(rt, alloc, lock, seat, gate, &mut workspace, stay, job);
         seat = turned.seat;
-        job = turned.job;
+        served = turned.served;
     }
     seat
 }

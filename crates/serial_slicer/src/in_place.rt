@@ -1,10 +1,10 @@
 //! A world that runs on in place.
 
-ghost use Rattle.std.specs.Prelude.{◌≡◌, ◌==◌, ◌<◌, IfOk, OnOk, find, length, option_copied};
+ghost use Rattle.std.specs.Prelude.{◌≡◌, ◌+◌, ◌==◌, ◌<◌, IfOk, OnOk, find, length, option_copied};
 ghost use Rattle.tierra_model.specs.declared.limits.TheConstants.{MOST_QUANTA};
-ghost use Rattle.tierra_model.specs.Quantum.{quantum};
+ghost use Rattle.tierra_model.specs.Quantum.{quantum, slice_of};
 ghost use Rattle.tierra_model.specs.Sound.{IsSound};
-ghost use Rattle.tierra_model.specs.World.{first_of};
+ghost use Rattle.tierra_model.specs.World.{first_of, front};
 
 use crate::slice::run_quantum;
 use crate::sole::Sole;
@@ -84,6 +84,22 @@ impl InPlace {
         ensures { OnOk result (self.new ≡ quantum self.old) }
     {
         counted_next::<Brand>(alloc, &mut self.sole, Blank::new(1))
+    }
+
+    /// The next quantum, with a count of its instructions.
+    pub fn next_counted<L: Ledger>(
+        &mut self,
+        alloc: Global,
+        steps: &mut Steps<L>,
+    ) -> Result<(), OutOfMemory>
+        requires sound { IsSound self.old }
+        requires more { self.old.quanta < MOST_QUANTA }
+        ensures world { OnOk result (self.new ≡ quantum self.old) }
+        ensures ticks { OnOk result (steps.new
+            ≡ steps.old + slice_of (front self.old).own.size self.old.settings) }
+    {
+        let settings = *self.sole.settings();
+        run_quantum(alloc, &mut self.sole, &settings, steps)
     }
 
     /// The world between two quanta. If there is no memory for it, it is lost.

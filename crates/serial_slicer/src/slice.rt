@@ -4,7 +4,7 @@ ghost use Rattle.std.specs.Prelude.{◌≡◌, ◌+◌, ◌<◌, OnOk, IsSome, �
 ghost use Rattle.tierra_model.specs.declared.limits.TheConstants.{COUNT_END, MOST_QUANTA, MOST_SIZE};
 ghost use Rattle.tierra_model.specs.declared.events.Act.TheVariants as act;
 ghost use Rattle.tierra_model.specs.Draw.{word};
-ghost use Rattle.tierra_model.specs.Quantum.{disturb, instruction, is_disturbed, mal, perform, quantum, reap_times, world_machine};
+ghost use Rattle.tierra_model.specs.Quantum.{disturb, instruction, is_disturbed, mal, perform, quantum, reap_times, slice_of, world_machine};
 ghost use Rattle.tierra_model.specs.Replay.{RecordFits};
 ghost use Rattle.tierra_model.specs.Sound.{IsSound};
 ghost use Rattle.tierra_model.specs.World.{front, put};
@@ -32,7 +32,9 @@ pub(crate) fn run_quantum<L: Ledger>(
     requires sound { IsSound sole.old.world }
     requires more { sole.old.world.quanta < MOST_QUANTA }
     requires settings { settings.now ≡ sole.old.world.settings }
-    ensures { OnOk result (sole.new.world ≡ quantum sole.old.world) }
+    ensures world { OnOk result (sole.new.world ≡ quantum sole.old.world) }
+    ensures ticks { OnOk result (steps.new
+        ≡ steps.old + slice_of (front sole.old.world).own.size sole.old.world.settings) }
 {
     let mut draws = Draws::new(settings, sole.quanta() + 1);
     sole.flip(&mut draws);
@@ -107,6 +109,7 @@ fn instruction<L: Ledger>(
         ≡ instruction world_machine settings.now (word settings.now.seed (sole.old.world.quanta + 1)) i
         (put creature.old sole.old.world)) }
     ensures draws { draws.new ≡ draws.old }
+    ensures ticks { steps.new ≡ steps.old + 1 }
 {
     match step(creature, sole, draws, i, settings, steps) {
         Act::Plain | Act::Wrote { .. } => Ok(()),

@@ -31,9 +31,19 @@ pub fn look<R: Wait>(
     ensures turns { result.0.turns ≡ seat.turns + 1 }
 {
     let (turn, book) = lock.take(rt, seat);
-    let sight = sight_in(alloc, &book);
+    let (book, sight) = look_in(alloc, book);
     let seat = lock.give(turn, book);
     (seat, sight)
+}
+
+// The book as it was, and what is seen of its world.
+fn look_in(alloc: Global, book: Book) -> (Book, Result<Sight, OutOfMemory>)
+    ensures book { result.0 ≡ book }
+    ensures sight { IfOk result.1 (λ s. s ≡ sight_of (world_of book)) }
+    ensures quanta { IfOk result.1 (λ s. s.quanta ≡ book.committed) }
+{
+    let sight = sight_in(alloc, &book);
+    (book, sight)
 }
 
 // What is seen of the book's world.

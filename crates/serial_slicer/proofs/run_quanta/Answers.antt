@@ -25,7 +25,7 @@ run_quantum-requires-clause-settings g c =
 
 pub loop-quantum-preserved : goal.loop-quantum-preserved
 loop-quantum-preserved g c =
-    goes_on c.loop-quantum._quantum c.args.sole.now.world c.loop-quantum.sole.world c.run_quantum.new.sole.world c.loop-quantum.invariant c.in_ok-run_quantum.ensures
+    goes_on c.loop-quantum._quantum c.args.sole.now.world c.loop-quantum.sole.world c.run_quantum.new.sole.world c.loop-quantum.invariant c.in_ok-run_quantum.ensures.world
 
 pub returns-clause-sound : goal.returns-clause-sound
 returns-clause-sound g c =

@@ -1,7 +1,6 @@
-use Rattle.std.proofs.Common.{◌≡◌, ◌∙◌, subst, arith, List, drop, IfOk}
+use Rattle.std.proofs.Common.{◌≡◌, subst, arith, List, drop, IfOk}
 use Rattle.std.proofs.lemmas.Result.{IfOk-weaker}
 use Rattle.tierra_model.specs.Groups.{GroupFields}
-use Rattle.tierra_model.specs.Setups.{IsSetup}
 use Rattle.tierra_model.proofs.BankIsGroups.{bank_is_groups}
 use Rattle.crew.specs.Hand.{AreNext, run_bank}
 use Rattle.crew.proofs.Banks.{are_next}
@@ -11,13 +10,9 @@ use Rattle.crew.proofs.handing.new_groups.Goals.{After-groups_from}
 as_in_bank : (c : After-groups_from) → IfOk c.groups_from.result (λ g. g ≡ drop c.args.done (run_bank c.args.book.now.setup c.args.book.now.committed))
 as_in_bank c =
     let book = c.args.book.now in
-    let is : IsSetup book.setup = subst IsSetup (c.behind-book.view_is ∙ c.setup.ensures) c.behind-book.invariant in
-    let few = c.quanta-quanta.ensures.most in
-    let all = c.quanta-quanta.ensures.value in
-    let most = c.committed-committed.ensures.most in
-    let now = c.committed-committed.ensures.value in
+    let run = c.is_run.ensures in
     subst (λ (groups : List GroupFields). IfOk c.groups_from.result (λ g. g ≡ drop c.args.done groups))
-    (bank_is_groups book.setup book.committed is (omega arith)) c.groups_from.ensures
+    (bank_is_groups book.setup book.committed run.setup (omega (arith, run.committed, run.few))) c.groups_from.ensures
 
 pub returns-clause-groups : goal.returns-clause-groups
 returns-clause-groups c = as_in_bank c
@@ -25,7 +20,5 @@ returns-clause-groups c = as_in_bank c
 pub returns-clause-next : goal.returns-clause-next
 returns-clause-next c =
     let book = c.args.book.now in
-    let most = c.committed-committed.ensures.most in
-    let now = c.committed-committed.ensures.value in
     IfOk-weaker c.groups_from.result _ (AreNext book.setup book.quanta c.args.done)
-    (λ groups is. are_next book.setup book.committed book.quanta c.args.done groups (omega arith) is) (as_in_bank c)
+    (λ groups is. are_next book.setup book.committed book.quanta c.args.done groups c.is_run.ensures.committed is) (as_in_bank c)

@@ -1,19 +1,24 @@
-use Rattle.std.proofs.Common.{refl, subst, ℕ, IfSome}
-use Rattle.tierra_model.specs.Setups.{SetupFields}
-use Rattle.crew.specs.Hand.{AreNext}
+use Rattle.std.proofs.Common.{◌∙◌, arith, ◌+◌}
+use Rattle.crew.proofs.HasGroups.{has_at_first}
+use Rattle.crew.proofs.Seating.{worked_then}
 use Rattle.crew.proofs.lead.lead.Goals as goal
 
-pub loop-init : goal.loop-init
-loop-init g c =
-    let hand = c.args.hand.now in
+pub lead_turn-turned-requires-clause-kept : goal.lead_turn-turned-requires-clause-kept
+lead_turn-turned-requires-clause-kept g c = has_at_first (g.H.Hand.setup c.args.hand.now) (g.H.Hand.quanta c.args.hand.now) (g.H.Hand.done c.args.hand.now)
+
+pub loop-preserved : goal.loop-preserved
+loop-preserved g c =
+    let before = c.loop.invariant.led in
+    let turn = c.lead_turn-turned-in-loop.ensures in
     record {
-      worked = c.lead_turn-turned.ensures.worked;
-      groups = subst (λ (p : SetupFields × ℕ). IfSome c.lead_turn-turned.result.groups (AreNext p.0 p.1 (g.H.Hand.done hand))) c.requires.setup
-          (subst (λ (k : ℕ). IfSome c.lead_turn-turned.result.groups (AreNext c.args.lock.now.opening.setup.0 c.args.lock.now.opening.setup.1 k)) c.done.ensures c.lead_turn-turned.ensures.groups);
-      setup = refl;
-      quanta = refl;
-      unhalted = c.requires.unhalted;
-      within = c.requires.within;
-      can = c.requires.can;
-      later = g.met.H.Hand.stays hand;
+      worked = worked_then (c.loop.counter + 1) 1 (c.loop.counter + 1 + 1) _ _ _ (omega arith) c.loop.invariant.worked turn.worked;
+      led = record {
+        setup = turn.hand.setup ∙ before.setup;
+        quanta = turn.hand.quanta ∙ before.quanta;
+        halts = turn.hand.halts;
+        within = turn.hand.within;
+        can = turn.hand.can;
+        later = g.met.H.Hand.goes_on _ _ _ before.later turn.hand.later;
+      };
+      kept = turn.kept;
     }

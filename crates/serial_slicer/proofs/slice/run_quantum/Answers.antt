@@ -1,5 +1,6 @@
 use Rattle.std.proofs.Common.{◌≡◌, ◌+◌, ◌≤◌, sym, ◌∙◌, ap, subst, arith}
 use Rattle.tierra_model.specs.Quantum.{slice_of}
+use Rattle.tierra_model.specs.World.{front}
 use Rattle.tierra_model.specs.declared.creatures.Creature.{Creature}
 use Rattle.mutation_streams.specs.Draws.{draws_of}
 use Rattle.serial_slicer.proofs.Quanta.{quantum-running, sound-in_quantum}
@@ -28,6 +29,7 @@ loop-i-init g c =
       turn = b.turn;
       world = taken c.args.settings.now c.args.sole.now.world c.requires.sound c.requires.more c.requires.settings c.disturb.new.sole.world c.begin_turn-creature.new.self.world c.begin_turn-creature.result none b.world b.record;
       draws = c.flip.ensures.draws ∙ c.new-draws.ensures ∙ ap (λ n. draws_of c.args.settings.now (n + 1)) c.quanta.ensures;
+      ticks = omega arith;
     }
 
 pub instruction-requires-clause-within : goal.instruction-requires-clause-within
@@ -69,6 +71,7 @@ loop-i-preserved g c =
       turn = c.in_ok-instruction.ensures.turn;
       world = c.in_ok-instruction.ensures.world ∙ then_next c.args.settings.now c.args.sole.now.world c.requires.sound c.requires.more c.requires.settings c.loop-i.i c.loop-i.creature c.loop-i.sole.world (omega arith) c.loop-i.invariant.turn.shares c.loop-i.invariant.world;
       draws = c.in_ok-instruction.ensures.draws ∙ c.loop-i.invariant.draws;
+      ticks = omega (arith, c.in_ok-instruction.ensures.ticks, c.loop-i.invariant.ticks);
     }
 
 pub put-requires-clause-within : goal.put-requires-clause-within
@@ -86,8 +89,8 @@ end_turn-requires g c =
     let few : c.slice_of-slice.result ≤ 10000 = subst (λ n. n ≤ 10000) (sym c.slice_of-slice.ensures) (slice_few c.begin_turn-creature.result.own.size c.args.settings.now) in
     running_run c.args.settings.now c.args.sole.now.world c.requires.sound c.requires.more c.requires.settings c.loop-i.i c.put.new.self.world (omega arith) (c.put.ensures ∙ c.loop-i.invariant.world)
 
-pub returns : goal.returns
-returns g c =
+pub returns-clause-world : goal.returns-clause-world
+returns-clause-world g c =
     let s = c.args.settings.now in
     let w = c.args.sole.now.world in
     let none = none_run s w c.requires.sound c.requires.more c.requires.settings c.flip.new.self.world c.disturb.new.sole.world c.flip.ensures.world c.in_ok-disturb.ensures in
@@ -95,3 +98,13 @@ returns g c =
     let n : c.loop-i.i ≡ c.slice_of-slice.result = omega arith in
     let slice = n ∙ c.slice_of-slice.ensures ∙ ap (λ (x : Creature). slice_of x.own.size s) own in
     c.end_turn.ensures ∙ quantum_is s w c.requires.sound c.requires.more c.requires.settings c.loop-i.i c.put.new.self.world slice (c.put.ensures ∙ c.loop-i.invariant.world)
+
+pub returns-clause-ticks : goal.returns-clause-ticks
+returns-clause-ticks g c =
+    let s = c.args.settings.now in
+    let w = c.args.sole.now.world in
+    let none = none_run s w c.requires.sound c.requires.more c.requires.settings c.flip.new.self.world c.disturb.new.sole.world c.flip.ensures.world c.in_ok-disturb.ensures in
+    let own = first_front s w c.requires.sound c.requires.more c.requires.settings c.disturb.new.sole.world c.begin_turn-creature.result none c.begin_turn-creature.ensures.record in
+    let n : c.loop-i.i ≡ c.slice_of-slice.result = omega arith in
+    let slice = n ∙ c.slice_of-slice.ensures ∙ ap (λ (x : Creature). slice_of x.own.size s) own ∙ ap (slice_of (front w).own.size) c.requires.settings in
+    omega (arith, c.loop-i.invariant.ticks, slice)

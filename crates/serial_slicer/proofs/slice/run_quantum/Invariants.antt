@@ -10,4 +10,5 @@ invariant-loop-i g l = record {
   turn : IsTurn l.creature l.sole;
   world : put l.creature l.sole.world ≡ run world_machine l.settings (l.fn.sole.world.quanta + 1) l.i l.fn.sole.world;
   draws : l.draws ≡ draws_of l.settings (l.fn.sole.world.quanta + 1);
+  ticks : l.steps ≡ l.fn.steps + l.i;
 }

@@ -1,12 +1,9 @@
-use Rattle.std.proofs.Common.{◌≡◌, ◌-◌, ◌<◌, true}
+use Rattle.std.proofs.Common.{◌-◌}
 use Rattle.commit_book.proofs.Working.{IsWorking}
 use Rattle.commit_book.proofs.book.Book.work_on.Given as goal
 
-abbrev pub invariant-quanta : goal.invariant-quanta
-invariant-quanta g l = record {
-  working : IsWorking l.fn.self l.committed l.stash.items l.history l.run;
-  some : l.saved ≡ true → l.fn.self.committed < l.committed;
-}
+abbrev pub invariant-findings : goal.invariant-findings
+invariant-findings g l = IsWorking l.kept l.fn.self l.book l.fn.steps l.steps
 
-abbrev pub decreases-quanta : goal.decreases-quanta
-decreases-quanta g l = l.fn.self.quanta - l.committed
+abbrev pub decreases-findings : goal.decreases-findings
+decreases-findings g l = l.book.quanta - l.book.committed
