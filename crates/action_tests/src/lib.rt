@@ -11,3 +11,5 @@ mod dumps;
 mod isles;
 #[cfg(test)]
 mod probes;
+#[cfg(test)]
+mod threads;

@@ -3,9 +3,13 @@
 use crate::runs::call_over;
 use soup_checkpoint::HoldFault;
 use soup_top::Status;
+use std::alloc::Global;
+use std::sync::Wait;
 use std::test::Fail;
-use test_calls::{call, line_of};
+use std::thread::Threads;
+use test_calls::{Ended, Given, PLAIN, call, call_with, line_of};
 use test_soups::ancestor_file;
+use tierra_model::OutOfMemory;
 
 const WORDS: &str = "hold --quanta 100 --every 34";
 
@@ -13,17 +17,82 @@ const WORDS: &str = "hold --quanta 100 --every 34";
 const TEXT: &str = "held 34\nheld 68\nquanta 100\nbirths 2\ndeaths 0\nliving 3\nfilled 400\n\
     front 2 ip 141 ax 319 bx 159 cx 1 dx 4 flag 0 errors 0\ngenotypes 1\nkept 1\n0080aaa 3 3\n";
 
+// A letter for each of its calls: the file is made, two states are appended, and the line of each is told.
+const CALLS: &str = "SLWSWSWSWSWSTWSWSTT";
+
 #[test]
 fn a_run_goes_on_from_its_checkpoint(rt: HostRuntime) -> Result<(), Fail> {
     let alloc = rt.alloc();
     let source = ancestor_file(alloc, "")?;
     let ended = call(&rt, alloc, WORDS, &source)?;
     assert!(rt; ended.is_done(TEXT));
-    assert_eq!(rt; ended.calls.as_str(), "SLWSWSWSWSWSTWSWSTT");
+    assert_eq!(rt; ended.calls.as_str(), CALLS);
     let longer = "hold --quanta 101 --every 34";
     let ended = call_over(&rt, alloc, longer, &source, &ended.file(0)?)?;
     assert_eq!(rt; ended.status, Status::Done);
     assert!(rt; ended.told.as_slice().starts_with(b"quanta 101\nbirths 3\n"));
+    Ok(())
+}
+
+/// The first lines that are told.
+fn first_lines(count: u64) -> &'static str {
+    match count {
+        0 => "",
+        1 => "held 34\n",
+        _ => "held 34\nheld 68\n",
+    }
+}
+
+/// What a run tells that goes on from the checkpoint of that number; 0 stands for the start.
+fn rest_from(number: u64) -> &'static str {
+    TEXT.strip_prefix(first_lines(number)).unwrap_or("")
+}
+
+/// Whether a run over what each crash leaves goes on from the last checkpoint that was told or a later one.
+fn goes_on_from_each_crash<R: Threads + Wait + Sync>(
+    rt: &R,
+    alloc: Global,
+    source: &str,
+    ended: &Ended,
+    told: u64,
+) -> Result<bool, OutOfMemory> {
+    for pick in 0..4u32 {
+        let again = call_over(rt, alloc, WORDS, source, &ended.file(pick)?)?;
+        if !(told..3).any(|number| again.is_done(rest_from(number))) {
+            return Ok(false);
+        }
+    }
+    Ok(true)
+}
+
+#[test]
+fn a_stop_at_each_call_leaves_a_true_checkpoint(rt: HostRuntime) -> Result<(), Fail> {
+    let alloc = rt.alloc();
+    let source = ancestor_file(alloc, "soup_size = 1000\n")?;
+    for stop in 1..=19u64 {
+        let given = Given {
+            stop: Some(stop),
+            ..PLAIN
+        };
+        let ended = call_with(&rt, alloc, WORDS, source.as_bytes(), &given)?;
+        let want = if matches!(stop, 13 | 18 | 19) {
+            Status::TellFault
+        } else {
+            Status::DiskFault
+        };
+        assert_eq!(rt; ended.status, want, "stop {stop}");
+        // Each state has four disk calls and a tell after the eight of the attach.
+        let lines = stop.saturating_sub(9) / 5;
+        assert_eq!(rt;
+            ended.told.as_slice(),
+            first_lines(lines).as_bytes(),
+            "stop {stop}"
+        );
+        assert!(rt;
+            goes_on_from_each_crash(&rt, alloc, &source, &ended, lines)?,
+            "stop {stop}"
+        );
+    }
     Ok(())
 }
 

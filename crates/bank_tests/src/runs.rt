@@ -9,7 +9,7 @@ use std::sync::Wait;
 use std::test::Fail;
 use std::thread::Threads;
 use test_calls::{Ended, Given, PLAIN, call, call_with, line_of};
-use test_soups::{ANCESTOR, ANCESTOR_HEX, GROWN};
+use test_soups::{ANCESTOR, ANCESTOR_HEX, GROWN, ancestor_file};
 use tierra_model::OutOfMemory;
 
 const SETUP_OF_ONE: [u8; 32] = [
@@ -211,6 +211,29 @@ fn a_run_makes_its_bank(rt: HostRuntime) -> Result<(), Fail> {
         assert!(rt; ended.is_done(text), "{words}");
         assert!(rt; sum_of(&ended.file(0)?) == bank, "{words}");
         assert_eq!(rt; ended.calls.as_str(), calls, "{words}");
+    }
+    Ok(())
+}
+
+#[test]
+fn runs_with_mutations_are_alike_with_any_number_of_workers(rt: HostRuntime) -> Result<(), Fail> {
+    let alloc = rt.alloc();
+    let source = ancestor_file(alloc, "copy_rate = 1000\nback_rate = 10000\n")?;
+    let first = call(&rt, alloc, "run --quanta 5000", &source)?;
+    assert_eq!(rt; first.status, Status::Done);
+    let counts = "quanta 5000\nbirths 113\ndeaths 0\nliving 114\nfilled 18559\nfront ";
+    let text = str::from_utf8(&first.told)?;
+    assert!(rt; text.contains(counts));
+    for words in [
+        "run --quanta 5000 --workers 3",
+        "run --quanta 5000 --workers 64",
+    ] {
+        let ended = call(&rt, alloc, words, &source)?;
+        assert!(rt; ended.is_done(text), "{words}");
+        assert!(rt;
+            sum_of(&ended.file(0)?) == sum_of(&first.file(0)?),
+            "{words}"
+        );
     }
     Ok(())
 }

@@ -2,7 +2,13 @@
 #![tactic(auto)]
 
 #[cfg(test)]
+mod ahead;
+#[cfg(test)]
 mod book;
+#[cfg(test)]
+mod gates;
+#[cfg(test)]
+mod hands;
 #[cfg(test)]
 mod observers;
 #[cfg(test)]

@@ -3,6 +3,7 @@
 ghost use Rattle.std.specs.Prelude.{◌≡◌, ◌^◌, ◌+◌, ◌<◌, ◌≤◌, [], IfOk, IfSome, OnOk};
 ghost use Rattle.soup_watch.specs.Seeing.{last_of};
 
+use crate::gates::{PlanGate, Until};
 use commit_book::Book;
 use crew::FreeGate;
 use serial_slicer::run_serial;
@@ -257,6 +258,24 @@ fn a_watched_run_ends_in_its_report(rt: HostRuntime) -> Result<(), Fail> {
         let text = str::from_utf8(&text.items)?;
         assert_eq!(rt; text.split("sight").count(), 5, "{workers} workers");
         assert!(rt; text.ends_with(end), "{workers} workers");
+    }
+    Ok(())
+}
+
+// The worker of the third job is held for long.
+const HOLD_THIRD: &[(u64, Until)] = &[(3, Until::Yields(1_000_000))];
+
+#[test]
+fn a_look_falls_between_two_commits(rt: HostRuntime) -> Result<(), Fail> {
+    let gate = PlanGate::new(HOLD_THIRD);
+    let setup = setup_of(rt.alloc(), TWO)?;
+    let text = watch(&rt, rt.alloc(), &gate, setup, 4, 1, 2)?;
+    let text = str::from_utf8(&text.items)?;
+    assert!(rt; text.contains("\nsight quanta 2 "), "{text}");
+    // The look leaves the book to its worker.
+    for quantum in 1..=4usize {
+        let calls = (gate.before_by(quantum), gate.after_by(quantum));
+        assert_eq!(rt; calls, (1, 1), "quantum {quantum}");
     }
     Ok(())
 }

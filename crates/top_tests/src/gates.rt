@@ -3,106 +3,173 @@
 use crew::Gate;
 use soup_top::Status;
 use std::alloc::Global;
+use std::array::from_fn;
 use std::sync::Wait;
 use std::sync::atomic::{AtomicBool, AtomicU64, Ordering};
 use std::test::Fail;
 use std::thread::{Threads, yield_now};
-use test_calls::{PLAIN, call_beside};
-use test_soups::TWO;
+use test_calls::{Given, PLAIN, call_beside};
+use test_soups::{ANCESTOR, TWO};
 use tierra_model::OutOfMemory;
 
-/// Counts the calls. Where `is_to_hold`, it holds the worker of the run's first `before` until another worker calls
-/// `after`, for at most 50,000,000 turns.
+/// Yields until the count is so great, at most 50,000,000 times. Says whether it became so great.
+fn is_reached(count: &AtomicU64, least: u64) -> bool {
+    for _ in 0..50_000_000 {
+        if count.load(Ordering::SeqCst) >= least {
+            return true;
+        }
+        yield_now();
+    }
+    false
+}
+
+/// Counts the calls, and lets no worker pass its first `before` until so many workers have come.
 #[derive(Drop)]
-struct Watch {
-    is_to_hold: bool,
-    befores: AtomicU64,
+struct Barrier {
+    workers: u64,
+    came: AtomicU64,
+    // The calls of `before`, by worker.
+    befores: [AtomicU64; 4],
     afters: AtomicU64,
-    // The worker that came first, or 0 as long as none came.
-    first: AtomicU64,
-    others_offered: AtomicBool,
     is_limit_met: AtomicBool,
-    is_ended_by_another: AtomicBool,
 }
 
-impl Watch {
-    fn new(is_to_hold: bool) -> Watch {
-        Watch {
-            is_to_hold,
-            befores: AtomicU64::new(0),
+impl Barrier {
+    fn new(workers: u64) -> Barrier {
+        Barrier {
+            workers,
+            came: AtomicU64::new(0),
+            befores: from_fn(|_| AtomicU64::new(0)),
             afters: AtomicU64::new(0),
-            first: AtomicU64::new(0),
-            others_offered: AtomicBool::new(false),
             is_limit_met: AtomicBool::new(false),
-            is_ended_by_another: AtomicBool::new(false),
         }
-    }
-
-    fn hold(&self) {
-        for _ in 0..50_000_000 {
-            if self.others_offered.load(Ordering::SeqCst) {
-                self.is_ended_by_another.store(true, Ordering::SeqCst);
-                return;
-            }
-            yield_now();
-        }
-        self.is_limit_met.store(true, Ordering::SeqCst);
     }
 }
 
-impl Gate for Watch {
+impl Gate for Barrier {
     fn before(&self, worker: u32, _quantum: u64) {
         let order = Ordering::SeqCst;
-        self.befores.fetch_add(1, order);
-        let came = self
-            .first
-            .compare_exchange(0, u64::from(worker), order, order);
-        if came.is_ok() && self.is_to_hold {
-            self.hold();
+        let Some(calls) = self.befores.get(worker as usize) else {
+            return;
+        };
+        if calls.fetch_add(1, order) > 0 {
+            return;
+        }
+        self.came.fetch_add(1, order);
+        if !is_reached(&self.came, self.workers) {
+            self.is_limit_met.store(true, order);
         }
     }
 
-    fn after(&self, worker: u32, _quantum: u64) {
+    fn after(&self, _worker: u32, _quantum: u64) {
         self.afters.fetch_add(1, Ordering::SeqCst);
-        if self.first.load(Ordering::SeqCst) != u64::from(worker) {
-            self.others_offered.store(true, Ordering::SeqCst);
-        }
     }
 }
 
-/// The status of a run of the two creatures with this gate.
-fn run_watched<R: Threads + Wait + Sync>(
+/// The status of a run with this gate.
+fn run_gated<R: Threads + Wait + Sync, G: Gate + Sync>(
     rt: &R,
     alloc: Global,
     words: &str,
-    gate: &Watch,
+    source: &str,
+    tells: &[u64],
+    gate: &G,
 ) -> Result<Status, OutOfMemory> {
-    let ended = call_beside(rt, alloc, words, TWO.as_bytes(), &PLAIN, gate)?;
+    let given = Given { tells, ..PLAIN };
+    let ended = call_beside(rt, alloc, words, source.as_bytes(), &given, gate)?;
     Ok(ended.status)
 }
 
 #[test]
-fn a_hold_ends_by_another_worker(rt: HostRuntime) -> Result<(), Fail> {
+fn each_worker_has_a_job_before_any_is_run(rt: HostRuntime) -> Result<(), Fail> {
     for words in [
         "run --quanta 200 --workers 3",
-        "watch --quanta 200 --workers 2",
+        "watch --quanta 200 --workers 3",
     ] {
-        let gate = Watch::new(true);
-        let status = run_watched(&rt, rt.alloc(), words, &gate)?;
+        let gate = Barrier::new(3);
+        let status = run_gated(&rt, rt.alloc(), words, TWO, &[], &gate)?;
         assert_eq!(rt; status, Status::Done, "{words}");
         assert!(rt; !gate.is_limit_met.load(Ordering::SeqCst), "{words}");
-        assert!(rt; gate.is_ended_by_another.load(Ordering::SeqCst), "{words}");
+        let counts = gate
+            .befores
+            .each_ref()
+            .map(|calls| calls.load(Ordering::SeqCst) > 0);
+        assert_eq!(rt; counts, [false, true, true, true], "{words}");
     }
     Ok(())
 }
 
 #[test]
-fn one_worker_runs_each_quantum(rt: HostRuntime) -> Result<(), Fail> {
-    let gate = Watch::new(false);
-    let words = "run --quanta 200";
-    let status = run_watched(&rt, rt.alloc(), words, &gate)?;
-    assert_eq!(rt; status, Status::Done);
-    let calls = [&gate.befores, &gate.afters].map(|calls| calls.load(Ordering::SeqCst));
-    assert_eq!(rt; calls, [200, 200]);
+fn one_worker_has_a_job_for_each_quantum(rt: HostRuntime) -> Result<(), Fail> {
+    for words in ["run --quanta 200", "watch --quanta 200 --looks 3"] {
+        let gate = Barrier::new(1);
+        let status = run_gated(&rt, rt.alloc(), words, TWO, &[], &gate)?;
+        assert_eq!(rt; status, Status::Done, "{words}");
+        let calls = [&gate.befores[1], &gate.afters].map(|calls| calls.load(Ordering::SeqCst));
+        assert_eq!(rt; calls, [200, 200], "{words}");
+    }
+    Ok(())
+}
+
+/// Worker 1 is held with its first job until worker 2 has the job of quantum 3, and worker 2 is held with that job
+/// until worker 1 has a job of quantum 6 or later.
+#[derive(Drop)]
+struct WindowGate {
+    thirds: AtomicU64,
+    sixths: AtomicU64,
+    is_limit_met: AtomicBool,
+}
+
+impl WindowGate {
+    fn new() -> WindowGate {
+        WindowGate {
+            thirds: AtomicU64::new(0),
+            sixths: AtomicU64::new(0),
+            is_limit_met: AtomicBool::new(false),
+        }
+    }
+
+    fn hold(&self, count: &AtomicU64) {
+        if !is_reached(count, 1) {
+            self.is_limit_met.store(true, Ordering::SeqCst);
+        }
+    }
+}
+
+impl Gate for WindowGate {
+    fn before(&self, worker: u32, quantum: u64) {
+        if worker == 1 && quantum < 3 {
+            self.hold(&self.thirds);
+        } else if worker == 2 && quantum == 3 {
+            self.thirds.fetch_add(1, Ordering::SeqCst);
+            self.hold(&self.sixths);
+        } else if worker == 1 && quantum >= 6 {
+            self.sixths.fetch_add(1, Ordering::SeqCst);
+        }
+    }
+
+    fn after(&self, _worker: u32, _quantum: u64) {}
+}
+
+// The ancestor, which breeds in its first slice, is the third of five creatures. Each other one loops in two cells.
+const FIRST_TWO: &str = "slice_size = 1000\n\
+    [[creature]]\nat = 1000\ncode = 'adrf nop_0 zero nop_1 push_ax ret'\n\
+    [[creature]]\nat = 2000\ncode = 'adrf nop_0 zero nop_1 push_ax ret inc_a'\n";
+
+const LAST_TWO: &str = "[[creature]]\nat = 3000\ncode = 'adrf nop_0 zero nop_1 push_ax ret inc_b'\n\
+    [[creature]]\nat = 4000\ncode = 'adrf nop_0 zero nop_1 push_ax ret inc_c'\n";
+
+// Worker 1 gets job 6 while quantum 3 is not committed. Were quantum 3 committed by then, worker 1 would tell what it
+// saved, and the run would end with that tell, before worker 1 has job 6.
+#[test]
+fn four_jobs_are_out_with_two_workers(rt: HostRuntime) -> Result<(), Fail> {
+    let alloc = rt.alloc();
+    let ancestor = "[[creature]]\nat = 0\ncode";
+    let source = format!(in alloc; "{FIRST_TWO}{ancestor} = \"\"\"{ANCESTOR}\"\"\"\n{LAST_TWO}")?;
+    let gate = WindowGate::new();
+    let words = "run --quanta 40 --workers 2";
+    let status = run_gated(&rt, alloc, words, &source, &[1], &gate)?;
+    assert_eq!(rt; status, Status::TellFault);
+    assert!(rt; !gate.is_limit_met.load(Ordering::SeqCst));
     Ok(())
 }

@@ -1,0 +1,170 @@
+//! Workers run coming quanta ahead of their turn, and what they find is committed.
+
+ghost use Rattle.std.specs.Prelude.{◌≤◌};
+
+use crate::gates::{BarrierGate, CountGate, PlanGate, Until};
+use crate::hands::{LOOPS, history_of};
+use crew::takes_jobs;
+use std::alloc::Global;
+use std::process::Abort;
+use std::sync::Wait;
+use std::test::Fail;
+use std::thread::Threads;
+use test_soups::TWO;
+use tierra_model::{How, Stale};
+
+// The two creatures, too far apart to meet.
+const FAR: &str = "soup_size = 1000\n[[creature]]\nat = 0\ncode = 'inc_b mov_iab'\n\
+    [[creature]]\nat = 500\ncode = 'nop_1 nop_1 nop_1 nop_1 nop_1'\n";
+
+const HOLD_FIRST: &[(u64, Until)] = &[(1, Until::After(2))];
+
+#[test]
+fn a_kept_finding_is_compared_in_its_turn(rt: HostRuntime) -> Result<(), Fail> {
+    let difference = Stale::Cell {
+        at: 0,
+        seen: 9,
+        now: 26,
+    };
+    for (file, how) in [(TWO, How::Stale(difference)), (FAR, How::Fresh)] {
+        let gate = PlanGate::new(HOLD_FIRST);
+        let lines = history_of(&rt, rt.alloc(), file, 2, 2, &gate)?;
+        assert!(rt; !gate.is_limit_met(), "{file}");
+        let other = gate.before_by(2);
+        let want = [(other, How::Missing), (other, how)];
+        assert_eq!(rt; lines.as_slice(), want.as_slice(), "{file}");
+    }
+    Ok(())
+}
+
+// The third job is held too, so that the finding of the second stays kept until that of the first is offered.
+const HOLD_FIRST_AND_THIRD: &[(u64, Until)] = &[(1, Until::After(2)), (3, Until::After(1))];
+
+#[test]
+fn a_finding_waits_for_the_one_before_it(rt: HostRuntime) -> Result<(), Fail> {
+    let gate = PlanGate::new(HOLD_FIRST_AND_THIRD);
+    let lines = history_of(&rt, rt.alloc(), LOOPS, 3, 2, &gate)?;
+    assert!(rt; !gate.is_limit_met());
+    // The worker of the first job commits all: the third finding comes too late.
+    let first = gate.before_by(1);
+    let want = [
+        (first, How::Fresh),
+        (first, How::Fresh),
+        (first, How::Missing),
+    ];
+    assert_eq!(rt; lines.as_slice(), want.as_slice());
+    Ok(())
+}
+
+// Each worker has a job before any is run; then they offer what they found in order, before they run a second job.
+const TWO_IN_ORDER: &[(u64, Until)] = &[
+    (1, Until::Before(2)),
+    (2, Until::After(1)),
+    (3, Until::After(2)),
+    (4, Until::After(2)),
+];
+
+const THREE_IN_ORDER: &[(u64, Until)] = &[
+    (1, Until::Before(3)),
+    (2, Until::After(1)),
+    (3, Until::After(2)),
+    (4, Until::After(3)),
+    (5, Until::After(3)),
+    (6, Until::After(3)),
+];
+
+#[test]
+fn each_worker_commits_what_it_found(rt: HostRuntime) -> Result<(), Fail> {
+    for (workers, quanta, plan) in [(2u32, 4u64, TWO_IN_ORDER), (3, 6, THREE_IN_ORDER)] {
+        let gate = PlanGate::new(plan);
+        let lines = history_of(&rt, rt.alloc(), LOOPS, quanta, workers, &gate)?;
+        assert!(rt; !gate.is_limit_met(), "{workers} workers");
+        for worker in 1..=u64::from(workers) {
+            assert!(rt;
+                lines.contains(&(worker, How::Fresh)),
+                "worker {worker} of {workers}"
+            );
+        }
+    }
+    Ok(())
+}
+
+#[test]
+fn all_workers_go_on_with_long_jobs(rt: HostRuntime) -> Result<(), Fail> {
+    go_on_with_long_jobs(&rt, rt.alloc(), 2)?;
+    go_on_with_long_jobs(&rt, rt.alloc(), 3)
+}
+
+// Each worker has a job past the trial, and what it found is offered; nearly all that is found is committed.
+fn go_on_with_long_jobs<R: Threads + Wait + Sync + Abort>(
+    rt: &R,
+    alloc: Global,
+    workers: u32,
+) -> Result<(), Fail>
+    requires { (1 ≤ workers) × (workers ≤ 3) }
+{
+    let gate = BarrierGate::new(workers, 256);
+    let lines = history_of(rt, alloc, LOOPS, 2000, workers, &gate)?;
+    assert!(rt; !gate.is_limit_met(), "{workers} workers");
+    for worker in 1..=workers {
+        assert!(rt; gate.afters_of(worker) > 0, "worker {worker} of {workers}");
+    }
+    let fresh = lines.iter().filter(|line| line.1 == How::Fresh).count();
+    assert!(rt; fresh >= 1800, "{fresh} with {workers} workers");
+    Ok(())
+}
+
+#[test]
+fn one_worker_takes_jobs_in_the_trial_alone(rt: HostRuntime) -> Result<(), Fail> {
+    let gate = CountGate::new();
+    let lines = history_of(&rt, rt.alloc(), TWO, 2000, 1, &gate)?;
+    assert_eq!(rt; gate.calls(), [256, 256]);
+    assert_eq!(rt; lines.len(), 2000);
+    for (place, line) in lines.iter().enumerate() {
+        let how = if place < 256 {
+            How::Fresh
+        } else {
+            How::Missing
+        };
+        assert_eq!(rt; *line, (1, how), "after {place} quanta");
+    }
+    Ok(())
+}
+
+#[test]
+fn short_jobs_end_with_the_trial(rt: HostRuntime) -> Result<(), Fail> {
+    let gate = CountGate::new();
+    let lines = history_of(&rt, rt.alloc(), TWO, 2000, 3, &gate)?;
+    assert_eq!(rt; lines.len(), 2000);
+    // As many as the window is wide may be out when the trial ends.
+    let [befores, _] = gate.calls();
+    assert!(rt; 256 <= befores && befores <= 262, "{befores}");
+    Ok(())
+}
+
+#[test]
+fn jobs_are_taken_in_the_trial_or_where_they_are_long(rt: HostRuntime) {
+    // The workers, the quanta that are committed, the living, and a slice.
+    let rows: [(u32, u16, u32, u32, bool); 12] = [
+        (1, 0, 28_000, 25, true),
+        (1, 255, 2, 1, true),
+        (1, 256, 2, 1, false),
+        (1, 256, 2, 10_000, false),
+        (1, 127, 3937, 25, true), // 499,999
+        (1, 125, 4000, 25, false),
+        (2, 125, 4000, 2999, false),
+        (2, 125, 4000, 3000, true),
+        (2, 256, 2, 2999, false),
+        (2, 256, 2, 3000, true),
+        (1, 256, 2, 3000, false),
+        (64, 60_000, 28_000, 10_000, true),
+    ];
+    for (workers, committed, living, slice, want) in rows {
+        let is_taken = takes_jobs(workers, u64::from(committed), living, slice);
+        assert_eq!(rt;
+            is_taken,
+            want,
+            "{workers} workers, {committed} quanta, {living} living, {slice}"
+        );
+    }
+}
