@@ -1,16 +1,15 @@
 """What the manual page says of an input, worked out apart from the program: the line of its refusal, or None.
 
-An answer "" stands where these rules do not tell, since the reader of TOML here is another one with limits of its own.
+What it says of soup files is what examples/check_soup says. An answer "" stands where these rules do not tell, since the reader of
+TOML there is another one.
 """
 
 import hashlib
+import importlib.machinery
+import importlib.util
+import pathlib
 import re
-import tomllib
 
-NAMES = ("nop_0 nop_1 or1 shl zero if_cz sub_ab sub_ac inc_a inc_b dec_c inc_c push_ax push_bx push_cx push_dx "
-         "pop_ax pop_bx pop_cx pop_dx jmp jmpb call ret mov_cd mov_ab mov_iab adr adrb adrf mal divide").split()
-CODES = {name: code for code, name in enumerate(NAMES)}
-MOST_BYTES, MOST_CODE = 1048576, 20000
 LONG = 100000  # what takes much time to read, and comes again
 answers = {}  # those of long files, by their digests
 PART = re.compile("\n+|;[^\n]*|[^ \t\r\n;]+")
@@ -31,14 +30,22 @@ ACTIONS = {
     "watch": TIMED | {"workers": (1, 63), "looks": (1, 1000)},
 }
 OPTIONS = {option for row in ACTIONS.values() for option in row}
+
+
+def load(path):
+    """A script of the repository as a module."""
+    loader = importlib.machinery.SourceFileLoader(path.name, str(path))
+    module = importlib.util.module_from_spec(importlib.util.spec_from_loader(path.name, loader))
+    loader.exec_module(module)
+    return module
+
+
+check_soup = load(pathlib.Path(__file__).resolve().parent.parent / "examples/check_soup")
+NAMES, MOST_BYTES, MOST_CODE = check_soup.NAMES, check_soup.MOST_BYTES, check_soup.MOST_CODE
+CODES = {name: code for code, name in enumerate(NAMES)}
 # Each key of a soup file with its range and default, in the order of the checks.
-KEYS = {
-    "soup_size": (100, 1048576, 60000), "slice_size": (1, 10000, 25), "slice_by_size": None, "slice_num": (1, 100, 1),
-    "slice_den": (1, 100, 4), "search_limit": (1, 1048576, 400), "min_template": (1, 10, 1), "min_cell": (1, 20000, 12),
-    "max_cell": (1, 20000, 20000), "mal_mult": (1, 100, 3), "fill_percent": (1, 100, 80), "move_percent": (0, 100, 70),
-    "save_at": (1, 1000000, 2), "back_rate": (0, 4294967295, 0), "copy_rate": (0, 4294967295, 0),
-    "flaw_rate": (0, 4294967295, 0), "seed": None, "dist_every": (0, 4000000, 0), "dist_percent": (0, 100, 10),
-}
+KEYS = {key: (row["minimum"], row["maximum"], row["default"]) if row["type"] == "integer" else None
+        for key, row in check_soup.KEYS.items() if key in check_soup.SETTINGS}
 
 
 def order(words):
@@ -117,27 +124,6 @@ def hex_fault(text):
     return code
 
 
-def is_number(value):
-    return isinstance(value, int) and not isinstance(value, bool)
-
-
-def shown(key):
-    return re.sub("[\x00-\x1f\x7f-\x9f]", lambda found: f"\\u{ord(found[0]):04X}", key)
-
-
-def least(keys):
-    return min(keys, key=str.encode)
-
-
-def wide(value):
-    """Whether a number in the document has no place in 64 bits."""
-    if isinstance(value, dict):
-        return any(map(wide, value.values()))
-    if isinstance(value, list):
-        return any(map(wide, value))
-    return is_number(value) and not -(2**63) <= value < 2**63
-
-
 def soup_file(source):
     """Gives the fault of a soup file, or its settings; "" where these rules do not tell."""
     if len(source) <= LONG:
@@ -149,60 +135,13 @@ def soup_file(source):
 
 
 def read_file(source):
-    """Gives what a soup file says.
-
-    The program's reader of TOML has bounds of its own, on how deep a document goes and on the exponent of a number, and takes a
-    byte order mark. It knows TOML 1.1: further escapes, and inline tables that go over lines or end with a comma."""
-    if sum(source.count(sign) for sign in (b".", b"[", b"{")) > 60 or re.search(rb"[eE][+-]?[0-9_]{3}|\\[ex]", source):
-        return ""
+    """Gives what a soup file says. Where examples/check_soup cannot tell, these rules do not either."""
     try:
-        document = tomllib.loads(source.decode().removeprefix("\ufeff"))
-        if wide(document):
-            return "soup file is not TOML"
-    except ValueError:
-        return "" if re.search(rb"\{[^{}]*\n|,\s*\}", source) else "soup file is not TOML"
-    if unknown := document.keys() - KEYS.keys() - {"creature"}:
-        return f"unknown key {shown(least(unknown))}"
-    for key, row in KEYS.items():
-        if key not in document:
-            document[key] = row[2] if row else False if key == "slice_by_size" else "0" * 64
-        value = document[key]
-        if not (is_number(value) if row else isinstance(value, bool if key == "slice_by_size" else str)):
-            return f"wrong kind of value for {key}"
-        if row and not row[0] <= value <= row[1] or key == "seed" and not re.fullmatch("[0-9a-fA-F]{64}", value):
-            return f"value out of range for {key}"
-    if document["max_cell"] < document["min_cell"]:
-        return "value out of range for max_cell"
-    return creatures_fault(document) or {key: document[key] for key in KEYS}
-
-
-def creatures_fault(document):
-    creatures = document.get("creature", [])
-    if not isinstance(creatures, list) or not all(isinstance(creature, dict) for creature in creatures):
-        return "wrong kind of value for creature"
-    if not creatures:
-        return "no creature"
-    owners = {}
-    for number, creature in enumerate(creatures, 1):
-        if unknown := creature.keys() - {"at", "code"}:
-            return f"unknown key creature.{shown(least(unknown))}"
-        for key, kind in (("at", is_number), ("code", lambda value: isinstance(value, str))):
-            if key not in creature:
-                return f"missing key creature.{key}"
-            if not kind(creature[key]):
-                return f"wrong kind of value for creature.{key}"
-            if key == "at" and not 0 <= creature["at"] < document["soup_size"]:
-                return "value out of range for creature.at"
-        code = listing_fault(creature["code"])
-        if isinstance(code, str):
-            return f"creature {number}: {code}"
-        block = range(creature["at"], creature["at"] + len(code))
-        if block.stop > document["soup_size"]:
-            return "value out of range for creature.at"
-        if others := [owners[cell] for cell in block if cell in owners]:
-            return f"creatures {min(others)} and {number} overlap"
-        owners.update(dict.fromkeys(block, number))
-    return None
+        return check_soup.check(source)
+    except check_soup.Fault as fault:
+        return fault.said
+    except check_soup.CannotTell:
+        return ""
 
 
 def saved_ends(payload, place, two):
