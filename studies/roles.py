@@ -14,7 +14,8 @@ The role of a genotype follows from all its creatures that were seen, and from w
 ancestor's settings and for 1,000 quanta, as `probe` runs it.
 
   parasite        runs cells of others, and alone has no daughter
-  hyperparasite   alone has a daughter, and more than half of the parasites that were copying in its cells copied its own genome
+  hyperparasite   alone has a daughter, and of the parasites that were seen copying in its cells, at least three, more than half
+                  copied its own genome
   host            alone has a daughter, and a parasite ran its cells
   self            alone has a daughter, and no parasite was seen in its cells
   idle            alone has no daughter, and was never seen to run cells of others
@@ -31,8 +32,9 @@ import tempfile
 import networkx
 import numpy
 import pandas
+import tqdm
 
-from . import files, frames, printed, program, soup
+from . import files, printed, program, soup
 from .refusal import Refused
 
 ROLES = ["host", "hyperparasite", "self", "parasite", "idle"]
@@ -108,7 +110,8 @@ def fertile(names, codes, probed, named):
     """Whether each of these genotypes has a daughter when it is alone, by its name."""
     left = [name for name in names if name not in probed]
     path = program.find(named) if left else None
-    return {name: probed[name] if name in probed else is_alone_fertile(codes[name], path) for name in names}
+    told = tqdm.tqdm(names, unit="genotype", disable=None)
+    return {name: probed[name] if name in probed else is_alone_fertile(codes[name], path) for name in told}
 
 
 def roles(seen, alone):
@@ -133,7 +136,7 @@ def role_of(is_parasite, row):
         return "parasite" if is_parasite else "idle"
     if not row.visits:
         return "self"
-    return "hyperparasite" if 2 * row.robbed > row.copying else "host"
+    return "hyperparasite" if row.copying >= 3 and 2 * row.robbed > row.copying else "host"
 
 
 def counts(seen, table):

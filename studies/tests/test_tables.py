@@ -207,7 +207,7 @@ def test_whose_cells():
     assert table.copies.tolist() == [None, "own", None, None, "other"] and table.copies_name[4] == "0020aaa"
 
 
-@pytest.mark.parametrize("copying, robbed, role", [(0, 0, "host"), (4, 2, "host"), (4, 3, "hyperparasite")])
+@pytest.mark.parametrize("copying, robbed, role", [(0, 0, "host"), (2, 2, "host"), (4, 2, "host"), (4, 3, "hyperparasite")])
 def test_hyperparasites(copying, robbed, role):
     seen = roles.who_runs_whom(pandas.concat([MOMENT[:1], *[MOMENT[1:2]] * max(copying, 1)], ignore_index=True), 100, 7)
     visits = seen.runs == "other"
