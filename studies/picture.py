@@ -85,7 +85,8 @@ def second_axis(axis, label):
 
 def legend(axis, other=None):
     lines = axis.get_legend_handles_labels(), other.get_legend_handles_labels() if other else ([], [])
-    axis.legend(lines[0][0] + lines[1][0], lines[0][1] + lines[1][1], loc="upper left", bbox_to_anchor=(1.07 if other else 1.01, 1), frameon=False)
+    place = (1.07 if other else 1.01, 1)
+    axis.legend(lines[0][0] + lines[1][0], lines[0][1] + lines[1][1], loc="upper left", bbox_to_anchor=place, frameon=False)
 
 
 def step_of(worlds):
@@ -129,7 +130,8 @@ def abundance(worlds, title, most=12, **_):
     figure, axis = axes(f"Living genotypes in Muller order: {title}")
     shades = [SERIES[k % len(SERIES)] for k in range(table.shape[1])]
     hatches = ["", "///", "...", "xxx"]
-    for k, (name, band) in enumerate(zip(table.columns, axis.stackplot(table.index / 1000, table.T.to_numpy(), linewidth=0.3, edgecolor="white"))):
+    bands = axis.stackplot(table.index / 1000, table.T.to_numpy(), linewidth=0.3, edgecolor="white")
+    for k, (name, band) in enumerate(zip(table.columns, bands)):
         band.set_facecolor("#D0D0D0" if name == "others" else shades[k])
         band.set_hatch("" if name == "others" else hatches[k // len(SERIES) % len(hatches)])
         band.set_label(name)
@@ -159,7 +161,8 @@ def roles_over_time(worlds, title, named=None, **_):
     living["role"] = living.name.map(named)
     if living.role.isna().any():
         raise Refused(f"the table of roles lacks {living.name[living.role.isna()].iloc[0]}")
-    table = living.pivot_table(index="quantum", columns="role", values="living", aggfunc="sum", fill_value=0).reindex(columns=roles.ROLES, fill_value=0)
+    table = living.pivot_table(index="quantum", columns="role", values="living", aggfunc="sum", fill_value=0)
+    table = table.reindex(columns=roles.ROLES, fill_value=0)
     figure, axis = axes(f"Who runs whose code: {title}")
     axis.stackplot(table.index / 1000, table.T.to_numpy(), labels=table.columns, colors=[COLOURS[role] for role in table.columns])
     axis.set_ylabel("living creatures")
@@ -214,8 +217,10 @@ def framed(image, title, named=None):
     shown = figure.figimage(image, 0, 0)
     text = figure.text(0.01, 1 - 14 / (height + top), title, va="center", fontsize=9)
     kinds = {role: COLOURS[role] for role in roles.ROLES} if named else {"creature": COLOURS["self"]}
-    key = [matplotlib.patches.Patch(facecolor=colour, edgecolor="#666666", linewidth=0.5, label=kind) for kind, colour in {**kinds, **OTHERS}.items()]
-    figure.legend(handles=key, loc="upper left", bbox_to_anchor=((width + 5) / (width + side), 1 - top / (height + top)), frameon=False, fontsize=8)
+    edge = {"edgecolor": "#666666", "linewidth": 0.5}
+    key = [matplotlib.patches.Patch(facecolor=colour, label=kind, **edge) for kind, colour in {**kinds, **OTHERS}.items()]
+    place = ((width + 5) / (width + side), 1 - top / (height + top))
+    figure.legend(handles=key, loc="upper left", bbox_to_anchor=place, frameon=False, fontsize=8)
     return figure, shown, text
 
 

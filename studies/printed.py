@@ -6,8 +6,9 @@ import pandas
 from .refusal import Refused
 
 CREATURE = re.compile(
-    r"creature (?P<id>\d+) at (?P<at>\d+) size (?P<size>\d+) daughter (?P<daughter>none|\d+\+\d+) moved (?P<moved>\d+) ip (?P<ip>\d+) "
-    r"ax (?P<ax>-?\d+) bx (?P<bx>-?\d+) cx (?P<cx>-?\d+) dx (?P<dx>-?\d+) sp (?P<sp>\d+) flag (?P<flag>[01]) errors (?P<errors>\d+) (?P<name>\w+)"
+    r"creature (?P<id>\d+) at (?P<at>\d+) size (?P<size>\d+) daughter (?P<daughter>none|\d+\+\d+) moved (?P<moved>\d+) "
+    r"ip (?P<ip>\d+) ax (?P<ax>-?\d+) bx (?P<bx>-?\d+) cx (?P<cx>-?\d+) dx (?P<dx>-?\d+) sp (?P<sp>\d+) "
+    r"flag (?P<flag>[01]) errors (?P<errors>\d+) (?P<name>\w+)"
 )
 COUNTS = ("quanta", "births", "deaths", "living", "filled", "genotypes", "kept")
 

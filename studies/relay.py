@@ -7,8 +7,8 @@ own block, at its place, in the order of the slicer queue. Registers, errors, da
 and genotypes are numbered anew, and quanta count from 1. The seed of leg E is the SHA-256 of the file's seed, E and 1. So the report of
 the last leg is that of `tierra isles --isles 1 --epochs E`.
 
-Each leg has a folder, leg1, leg2 and so on, with soup.toml, tierra.hold (the world at its end), tierra.bank, hold.txt and run.txt; it is run
-twice, since one action keeps checkpoints and another one the genebank; --no-genebank leaves the second out. relay.csv then joins the
+Each leg has a folder, leg1, leg2 and so on, with soup.toml, tierra.hold (the world at its end), tierra.bank, hold.txt and run.txt. It
+is run twice, since one action keeps checkpoints and another one the genebank; --no-genebank leaves the second out. relay.csv joins the
 names by code: leg, name (in this leg), saved (quantum of this leg), since (quanta since the beginning), first_leg and first_name (where the
 same code was first saved), size, code. A relay that was interrupted goes on when it is started again. A soup file has at most 1 MiB:
 a leg whose living need more is refused.

@@ -71,8 +71,8 @@ def looked_up(creatures, owners, cells):
 
 def sources(creatures, size):
     """The third cell of the genome that each creature is copying, and whether it is copying one."""
-    done = creatures.ax.to_numpy() % size - creatures.daughter_at.to_numpy()
-    return (creatures.bx.to_numpy() - done + 2) % size, (done >= 0) & (done <= creatures.daughter_size.to_numpy()) & (creatures.daughter_size > 0)
+    done, whole = creatures.ax.to_numpy() % size - creatures.daughter_at.to_numpy(), creatures.daughter_size.to_numpy()
+    return (creatures.bx.to_numpy() - done + 2) % size, (done >= 0) & (done <= whole) & (whole > 0)
 
 
 def who_runs_whom(creatures, size, quantum):

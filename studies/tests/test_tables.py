@@ -64,7 +64,8 @@ def test_abundance():
 
 @pytest.mark.parametrize("parents, order", [([None, 0, 0, 1], [0, 1, 3, 2]), ([None, None, 0, 1, 2], [0, 2, 4, 1, 3])])
 def test_muller_order(parents, order):
-    assert abundance.muller_order(pandas.DataFrame({"genotype": range(len(parents)), "parent": pandas.Series(parents, dtype=object)})) == order
+    table = pandas.DataFrame({"genotype": range(len(parents)), "parent": pandas.Series(parents, dtype=object)})
+    assert abundance.muller_order(table) == order
 
 
 def by_hand(counts):
@@ -123,7 +124,8 @@ def saved(name, quantum, parent):
 
 def test_what_a_genebank_lacks(capsys):
     """A parent that was saved after its daughter was born before her; one that was never saved is named."""
-    table = phylogeny.of_bank([saved("0080aaa", 5, None), saved("0080aac", 70, "0080aab"), saved("0080aab", 90, "0080aaa"), saved("0080aae", 95, "0080aad")])
+    known = [saved("0080aaa", 5, None), saved("0080aac", 70, "0080aab"), saved("0080aab", 90, "0080aaa")]
+    table = phylogeny.of_bank([*known, saved("0080aae", 95, "0080aad")])
     assert dict(zip(table.taxon_label, table.origin_time)) == {"0080aaa": 5, "0080aac": 70, "0080aab": 70, "0080aae": 95}
     assert table.ancestor_list.tolist() == ["[NONE]", "[2]", "[0]", "[NONE]"] and table.missing_parent[3] == "0080aad"
     phylogeny.tell_missing(table)
@@ -159,7 +161,6 @@ def test_dendropy_reads_the_tree(tmp_path):
     for tree in dendropy.TreeList.get(path=str(path), schema="newick", suppress_internal_node_taxa=True):
         depths = [leaf.level() for leaf in tree.leaf_node_iter()]
         found.append((len(tree.leaf_nodes()), max(depths), sum(depths)))
-        assert dendropy.calculate.treemeasure.sackin_index(tree, normalize=False) == sum(depths) if hasattr(dendropy.calculate, "treemeasure") else True
     assert found == shapes
 
 
