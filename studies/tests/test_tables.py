@@ -118,6 +118,17 @@ def test_times_of_the_tree():
     assert set(living.taxon_label) == {"0080aaa", "0044aaa", "0044aad", "0044aae", "0043aab", "0043aac", "0025aaa"}
 
 
+def test_a_genebank_of_all_has_the_same_tree():
+    """With save_at = 1 the genebank has every genotype: parents, times and codes are those of the checkpoints."""
+    bank, hold = phylogeny.table_of(DATA / "mixed_all.bank"), phylogeny.table_of(HOLD)
+    trees = []
+    for table in (bank, hold):
+        labels = table.set_index("id").taxon_label
+        parents = [labels.get(phylogeny.parents_of(table)[one]) for one in table.id]
+        trees.append({row.taxon_label: (parent, row.origin_time, row.sequence) for parent, row in zip(parents, table.itertuples())})
+    assert trees[0] == trees[1] and bank.missing_parent.isna().all()
+
+
 def saved(name, quantum, parent):
     return files.Saved(name, 80, quantum, parent, dict.fromkeys(files.EFFORTS), b"\x00")
 
