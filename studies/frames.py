@@ -30,8 +30,7 @@ def add_hold(parser):
 
 def worlds_of(args):
     """The worlds of the file that the words name; a file with none is refused."""
-    digest = soup.digest(soup.plain(pathlib.Path(args.soup).read_text(encoding="utf-8"))) if args.soup else None
-    worlds = files.read_hold(args.hold, digest)
+    worlds = files.read_hold(args.hold, soup.digest_of(args.soup))
     if not worlds:
         raise Refused(f"{args.hold} holds no checkpoint")
     return worlds

@@ -31,7 +31,7 @@ def settings_of(folder):
         notes = json.loads((folder / "notes.json").read_text())
     except (OSError, ValueError) as fault:
         raise Refused(f"{folder} has no finished run") from fault
-    document = soup.plain((folder / "soup.toml").read_text(encoding="utf-8"))
+    document = soup.plain(soup.text_in(folder / "soup.toml"), f"{folder}/soup.toml")
     if soup.digest(document).hex() != notes["setup"]:
         raise Refused(f"{folder}/soup.toml is not the soup file that was run")
     return soup.settings(document)

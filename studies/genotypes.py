@@ -9,7 +9,6 @@ That is the alphabet of base32 (RFC 4648). The head of a record is the name, the
 individual, its parent and its efforts, as `key=value`. A .tie has Tierra's names of instructions, and its header as far as it is known
 here: the genotype, its parent, and what its first two daughters cost. `zuldokan listing` reads FASTA and .tie back.
 """
-import pathlib
 import sys
 
 import pandas
@@ -85,8 +84,7 @@ def listing(one):
 
 
 def run(args):
-    digest = soup.digest(soup.plain(pathlib.Path(args.soup).read_text(encoding="utf-8"))) if args.soup else None
-    found = chosen(all_in(args.file, digest), args.only, args.file)
+    found = chosen(all_in(args.file, soup.digest_of(args.soup)), args.only, args.file)
     if args.kind != "fasta" and len(found) != 1:
         raise Refused(f"--as {args.kind} takes one genotype: name it with --only")
     made = {"fasta": fasta, "tie": tie, "listing": listing}[args.kind]

@@ -22,9 +22,16 @@ VERBS = {
 }
 
 
+class Parser(argparse.ArgumentParser):
+    """A parser whose refusals are one line."""
+
+    def error(self, message):
+        raise Refused(message)
+
+
 def parser_of(verb, module):
     """The parser of a verb's words; its help is the module's docstring."""
-    parser = argparse.ArgumentParser(
+    parser = Parser(
         prog=f"zuldokan {verb}", description=module.__doc__, formatter_class=argparse.RawDescriptionHelpFormatter
     )
     module.add_arguments(parser)
@@ -55,6 +62,12 @@ def main(words=None):
         return 141
     except ModuleNotFoundError as missing:
         print(f"zuldokan {verb}: needs the Python package {missing.name}; docs/STUDIES.md has the line that installs it", file=sys.stderr)
+        return 2
+    except KeyboardInterrupt:
+        print(f"zuldokan {verb}: interrupted", file=sys.stderr)
+        return 130
+    except UnicodeDecodeError:
+        print(f"zuldokan {verb}: the input is not UTF-8", file=sys.stderr)
         return 2
     except (Refused, OSError) as fault:
         print(f"zuldokan {verb}: {fault}", file=sys.stderr)

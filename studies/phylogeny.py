@@ -137,8 +137,7 @@ def tell_missing(table):
 
 
 def run(args):
-    digest = soup.digest(soup.plain(pathlib.Path(args.soup).read_text(encoding="utf-8"))) if args.soup else None
-    table = table_of(args.file, digest)
+    table = table_of(args.file, soup.digest_of(args.soup))
     if args.living:
         if "last_seen" not in table:
             raise Refused("--living needs checkpoints: a genebank does not say what lives")

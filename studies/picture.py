@@ -29,7 +29,7 @@ from matplotlib import animation as films
 
 from . import abundance as abundances
 from . import diversity as diversities
-from . import files, frames, phylogeny, roles, soup
+from . import frames, phylogeny, roles, soup
 from .refusal import Refused
 
 COLOURS = {"host": "#0072B2", "hyperparasite": "#CC79A7", "self": "#56B4E9", "parasite": "#D55E00", "idle": "#999999"}
@@ -54,7 +54,7 @@ def title_of(path):
     """What the title says of the run: the soup file's name and seed, without the zeros that the seed begins with."""
     if path is None:
         return "a run"
-    seed = soup.settings(soup.plain(pathlib.Path(path).read_text(encoding="utf-8")))["seed"]
+    seed = soup.settings(soup.plain(soup.text_in(path), str(path)))["seed"]
     return f"{pathlib.Path(path).name}, seed {seed.lower().lstrip('0') or '0'}"
 
 
@@ -62,7 +62,10 @@ def roles_in(path):
     """The role of each genotype, from a table of `zuldokan roles`."""
     if path is None:
         return {}
-    table = pandas.read_csv(path)
+    try:
+        table = pandas.read_csv(path)
+    except ValueError:
+        table = pandas.DataFrame()
     if not {"name", "role"} <= set(table.columns):
         raise Refused(f"{path} is no table of zuldokan roles")
     return dict(zip(table.name, table.role))

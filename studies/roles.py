@@ -173,7 +173,7 @@ def codes_in(text, creatures):
 def read(path, digest=None):
     """What a file of checkpoints or a dump shows: the rows of its creatures, and the genotypes' codes."""
     if path == "-" or open(path, "rb").read(7) == b"quanta ":
-        text = sys.stdin.read() if path == "-" else pathlib.Path(path).read_text()
+        text = sys.stdin.read() if path == "-" else soup.text_in(path)
         creatures = printed.creatures_in(text)
         rows = [line for line in text.splitlines() if line[7:8] == ":"]
         ends = [creatures["at"] + creatures["size"], creatures.daughter_at + creatures.daughter_size, creatures.ip + 1]
@@ -187,12 +187,11 @@ def read(path, digest=None):
 
 
 def run(args):
-    digest = soup.digest(soup.plain(pathlib.Path(args.soup).read_text(encoding="utf-8"))) if args.soup else None
-    seen, codes = read(args.file, digest)
+    seen, codes = read(args.file, soup.digest_of(args.soup))
     if args.creatures:
         seen.to_csv(sys.stdout, index=False)
         return
-    probed = printed.probes_in(args.probe.read_text()) if args.probe else {}
+    probed = printed.probes_in(soup.text_in(args.probe)) if args.probe else {}
     table = roles(seen, fertile(sorted(set(seen.name)), codes, probed, args.program))
     if args.graph:
         networkx.write_graphml(graph(seen, table), args.graph)

@@ -52,17 +52,25 @@ def parse(text, what="soup file"):
         raise Refused(f"{what} is not TOML: {str(fault).splitlines()[0]}") from fault
 
 
-def plain(text):
+def plain(text, what="soup file"):
     """What a soup file's text says, in plain Python values."""
-    return tomllib.loads(text)
+    try:
+        return tomllib.loads(text)
+    except ValueError as fault:
+        raise Refused(f"{what} is not TOML: {fault}") from fault
+
+
+def text_in(path):
+    """The text of a file in UTF-8."""
+    try:
+        return pathlib.Path(path).read_text(encoding="utf-8")
+    except UnicodeDecodeError as fault:
+        raise Refused(f"{path} is not UTF-8") from fault
 
 
 def read(path):
     """The document of a soup file, with its comments."""
-    try:
-        return parse(pathlib.Path(path).read_text(encoding="utf-8"), str(path))
-    except UnicodeDecodeError as fault:
-        raise Refused(f"{path} is not UTF-8") from fault
+    return parse(text_in(path), str(path))
 
 
 def text_of(document):
@@ -138,3 +146,8 @@ def setup_bytes(document):
 def digest(document):
     """The digest of the setup, which stands in the header of both files that the program keeps."""
     return hashlib.sha256(setup_bytes(document)).digest()
+
+
+def digest_of(path):
+    """The digest of the setup of a soup file, or None where no file is named."""
+    return None if path is None else digest(plain(text_in(path), str(path)))

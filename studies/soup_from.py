@@ -8,7 +8,6 @@ individuals begin. The settings are those of the file `--like`, with `--set` and
 last cell are refused, and so is a file that would be longer than the program takes.
 """
 import copy
-import pathlib
 import re
 import sys
 
@@ -34,7 +33,7 @@ def placed_by(word):
     if name:
         code = genotypes.chosen(genotypes.all_in(path), [name], path)[0].code
     else:
-        code = soup.code_of_listing(pathlib.Path(path).read_text(encoding="utf-8"), path)
+        code = soup.code_of_listing(soup.text_in(path), path)
     comment = f"{name} of {path}" if name else path
     return [(int(place), code, comment) for place in found["places"].split(",")]
 

@@ -9,7 +9,7 @@ import numpy
 import pytest
 from PIL import Image
 
-from studies import files, genotypes, listing, picture, program, relay, roles, soup, soup_from, trace
+from studies import files, genotypes, listing, main, picture, program, relay, roles, soup, trace
 from studies.refusal import Refused
 
 from .conftest import DATA, TOP, peer
@@ -248,6 +248,25 @@ def test_the_command():
     assert "usage: zuldokan VERB" in subprocess.run([*asked, "--help"], capture_output=True, text=True, check=True).stdout
     answer = subprocess.run([*asked, "frame"], capture_output=True, text=True)
     assert (answer.returncode, answer.stdout, answer.stderr) == (2, "", "zuldokan frame: no verb frame; zuldokan --help names them\n")
+
+
+@pytest.mark.parametrize("verb", main.VERBS)
+def test_each_verb_has_help_and_refuses_words(verb, capsys):
+    with pytest.raises(SystemExit) as ended:
+        main.main([verb, "--help"])
+    shown = capsys.readouterr().out
+    assert ended.value.code == 0 and f"zuldokan {verb} " in shown and len(shown) > 400
+    assert main.main([verb, "--no-such-word"]) == 2
+    out, line = capsys.readouterr()
+    assert out == "" and line.startswith(f"zuldokan {verb}: ") and line.count("\n") == 1
+
+
+def test_inputs_that_are_no_text(refused, tmp_path):
+    (tmp_path / "bad").write_bytes(b"quanta \xff")
+    assert "is not UTF-8" in refused("roles", tmp_path / "bad")
+    assert "is not UTF-8" in refused("frames", HOLD, "--soup", tmp_path / "bad")
+    (tmp_path / "bad").write_text("seed =")
+    assert "is not TOML" in refused("frames", HOLD, "--soup", tmp_path / "bad")
 
 
 def test_the_page_names_every_package():

@@ -8,7 +8,7 @@ import networkx
 import pandas
 import pytest
 
-from studies import abundance, diversity, files, frames, phylogeny, printed, roles, soup
+from studies import abundance, diversity, files, phylogeny, printed, roles
 
 from .conftest import DATA, peer
 
