@@ -1,0 +1,51 @@
+"""How many of each genotype live over time (CSV): a row for each checkpoint, a column for each genotype.
+
+  zuldokan abundance tierra.hold --most 30 > abundance.csv
+  zuldokan abundance tierra.hold --by size > sizes.csv
+
+The columns stand in Muller order: each genotype after its parent, its descendants together. `--most` keeps the genotypes that had
+the most individuals at any checkpoint, and adds up the others in the column `others`. Unit: living creatures.
+"""
+import sys
+
+from . import frames
+
+
+def add_arguments(parser):
+    frames.add_hold(parser)
+    parser.add_argument("--by", choices=["genotype", "size"], default="genotype")
+    parser.add_argument("--most", type=int, help="how many genotypes have a column of their own (default all)")
+
+
+def muller_order(genotypes):
+    """The numbers of the genotypes, each after its parent and before its parent's later daughters: the order of a Muller plot."""
+    daughters = {}
+    for row in genotypes[["genotype", "parent"]].itertuples(index=False):
+        daughters.setdefault(None if row.parent is None or row.parent != row.parent else int(row.parent), []).append(row.genotype)
+    order, waiting = [], daughters.get(None, [])[::-1]
+    while waiting:
+        order.append(waiting.pop())
+        waiting += daughters.get(order[-1], [])[::-1]
+    return order
+
+
+def abundance(worlds, by="genotype", most=None):
+    """The table of living creatures by quantum and by the names of genotypes, or by sizes."""
+    table = frames.living(worlds)
+    if by == "size":
+        return table.pivot_table(index="quantum", columns="size", values="living", aggfunc="sum", fill_value=0)
+    wide = table.pivot_table(index="quantum", columns="genotype", values="living", aggfunc="sum", fill_value=0)
+    genotypes = worlds[-1].genotypes
+    known = genotypes.assign(parent=genotypes.parent.astype(object).where(genotypes.parent.notna(), None))
+    kept = set(wide.max().sort_values(ascending=False, kind="stable").index[:most])
+    shown = wide[[number for number in muller_order(known) if number in kept]].copy()
+    others = wide.drop(columns=shown.columns).sum(axis=1)
+    shown.columns = genotypes.name.loc[shown.columns]
+    shown.columns.name = None
+    if most is not None and most < wide.shape[1]:
+        shown["others"] = others
+    return shown
+
+
+def run(args):
+    abundance(frames.worlds_of(args), args.by, args.most).to_csv(sys.stdout)

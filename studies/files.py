@@ -1,0 +1,252 @@
+"""Reads the two files that the program keeps, tierra.bank and tierra.hold. No other module reads them.
+
+The layouts are the tables of docs/MODEL.md: "The genebank's file" and "The genebank's bytes" for a genebank, "Checkpoints"
+and "A world's bytes" for a file of checkpoints. Numbers are unsigned, with the most significant byte first.
+A file is checked to its end before anything of it is given: what the program would refuse is refused here.
+"""
+import functools
+import hashlib
+import mmap
+import pathlib
+import string
+from typing import NamedTuple, Optional
+
+import numpy
+import pandas
+
+from .refusal import Refused
+
+HEADER = 45  # the title in 12 bytes, the digest of the setup in 32, and the gate of the first part
+BANK, HOLD = b"Tierra bank1", b"Tierra hold1"
+REGISTERS = ["ax", "bx", "cx", "dx"]
+# The row "a creature" of the table in "A world's bytes".
+CREATURE = numpy.dtype(
+    [("id", ">u8"), ("at", ">u4"), ("size", ">u4"), ("daughter_at", ">u4"), ("daughter_size", ">u4"), ("moved", ">u8")]
+    + [(register, ">i4") for register in REGISTERS]
+    + [("ip", ">u4"), ("stack", ">i4", 10), ("sp", ">u4"), ("flag", "u1")]
+    + [(count, ">u8") for count in ("errors", "genotype", "ran", "bred")]
+)
+EFFORTS = ["first_run", "first_moved", "second_run", "second_moved"]
+
+
+def name_of(size, rank):
+    """The text of a genotype's name: its size, and letters for its rank among the genotypes of that size."""
+    letters, width = "", 3
+    while rank >= 26**width:
+        rank, width = rank - 26**width, width + 1
+    for _ in range(width):
+        rank, letter = divmod(rank, 26)
+        letters = string.ascii_lowercase[letter] + letters
+    return f"{size:04d}{letters}"
+
+
+def number(data, at, width):
+    return int.from_bytes(data[at : at + width], "big")
+
+
+def efforts_at(data, at):
+    """The first and second effort as a dictionary; None stands where there was no such daughter."""
+    numbers = [number(data, at + 8 * k, 8) for k in range(4)]
+    kept = [value if numbers[k - k % 2] else None for k, value in enumerate(numbers)]
+    return dict(zip(EFFORTS, kept))
+
+
+class World:
+    """The world that a frame holds: "A world's bytes" of docs/MODEL.md, part by part. The genotypes are read when first asked for."""
+
+    def __init__(self, state):
+        self.state = state
+        size = number(state, 0, 4)
+        self.cells = numpy.frombuffer(state, numpy.uint8, size, 4)
+        at = 4 + size
+        self.quanta, self.births, self.deaths, self.next_id = (number(state, at + 8 * k, 8) for k in range(4))
+        living = number(state, at + 32, 4)
+        at += 36
+        self.records = numpy.frombuffer(state, CREATURE, living, at)
+        at += living * CREATURE.itemsize
+        self.reaper = numpy.frombuffer(state, ">u8", living, at)
+        self.genotypes_at = at + 8 * living
+
+    @functools.cached_property
+    def creatures(self):
+        """The living in the order of their turns, a row each; `genotype` is a number, counted from 0 by first birth."""
+        columns = {name: self.records[name].astype("int64") for name in CREATURE.names if name != "stack"}
+        return pandas.DataFrame(columns)
+
+    @property
+    def stacks(self):
+        """The ten words of the stack of each of the living."""
+        return self.records["stack"].astype("int64")
+
+    @functools.cached_property
+    def parts(self):
+        """The genotypes and the saved genotypes, as two lists of rows, and where the state ends."""
+        state, at = self.state, self.genotypes_at
+        count, at = number(state, at, 8), at + 8
+        genotypes, savings, ranks = [], [], {}
+        for index in range(count):
+            size = number(state, at, 4)
+            code, at = bytes(state[at + 4 : at + 4 + size]), at + 4 + size
+            parent, first, total = (number(state, at + 8 * k, 8) for k in range(3))
+            rank = ranks.get(size, 0)
+            ranks[size] = rank + 1
+            row = {"genotype": index, "name": name_of(size, rank), "size": size, "parent": parent - 1 if parent else None}
+            genotypes.append(row | {"first_quantum": first, "total": total} | efforts_at(state, at + 24) | {"code": code})
+            at += 56
+        count, at = number(state, at, 8), at + 8
+        for _ in range(count):
+            row = {"genotype": number(state, at, 8), "saved": number(state, at + 8, 8)}
+            savings.append(row | efforts_at(state, at + 16))
+            at += 48
+        return genotypes, savings, at
+
+    @functools.cached_property
+    def genotypes(self):
+        """Every genotype that ever lived, in the order of first birth: name, size, parent's number, first quantum, total, efforts,
+        code. An effort is in instructions run and cells moved, and is missing where there was no such daughter."""
+        columns = ["genotype", "name", "size", "parent", "first_quantum", "total", *EFFORTS, "code"]
+        table = pandas.DataFrame(self.parts[0], columns=columns)
+        return table.astype({column: "Int64" for column in ["parent", *EFFORTS]})
+
+    @functools.cached_property
+    def savings(self):
+        """The saved genotypes in the order of saving: number, quantum, and the efforts at that time."""
+        table = pandas.DataFrame(self.parts[1], columns=["genotype", "saved", *EFFORTS])
+        return table.astype({column: "Int64" for column in EFFORTS})
+
+    @functools.cached_property
+    def owners(self):
+        """The place in `creatures` of each cell's owner: k for its own block, -2 - k for its daughter block, -1 for a free cell."""
+        owners = numpy.full(len(self.cells), -1, "int64")
+        for k, (at, size, daughter_at, daughter_size) in enumerate(
+            zip(*(self.records[name].tolist() for name in ("at", "size", "daughter_at", "daughter_size")))
+        ):
+            owners[at : at + size] = k
+            owners[daughter_at : daughter_at + daughter_size] = -2 - k
+        return owners
+
+
+class Saved(NamedTuple):
+    """A saved genotype of a genebank."""
+
+    name: str
+    size: int
+    quantum: int
+    parent: Optional[str]
+    efforts: dict
+    code: bytes
+
+
+def image_of(path):
+    """The bytes of a file, mapped where it has any."""
+    with open(path, "rb") as file:
+        empty = pathlib.Path(path).stat().st_size == 0
+        return b"" if empty else mmap.mmap(file.fileno(), 0, access=mmap.ACCESS_READ)
+
+
+def is_fresh(image, title):
+    """Whether nothing was kept in the file yet."""
+    return len(image) < HEADER or image[0] == 0 or (image[:1] != title[:1] and image[1:12] == title[1:])
+
+
+def parts_of(image, top_bit):
+    """The parts behind open gates, each as the places of its content and whether its length has the top bit; their digests hold.
+    Gives the number of a damaged part instead."""
+    gate, parts = HEADER - 1, []
+    while image[gate] == 1:
+        length = number(image, gate + 1, 4)
+        marked, length = (length >> 31 == 1, length & 0x7FFFFFFF) if top_bit else (False, length)
+        begin, end = gate + 5, gate + 5 + length
+        gate = end + 32
+        if gate >= len(image) or hashlib.sha256(memoryview(image)[begin:end]).digest() != image[end:gate]:
+            return len(parts)
+        parts.append((begin, end, marked))
+    return parts
+
+
+def check_setup(image, digest, what):
+    if digest is not None and image[12:44] != digest:
+        raise Refused(f"{what} belongs to another setup")
+
+
+def kind_of(path):
+    """`bank` or `hold`, by the title that a file begins with."""
+    with open(path, "rb") as file:
+        title = file.read(12)
+    if title[1:] not in (BANK[1:], HOLD[1:]):
+        raise Refused(f"{path} is neither a genebank nor a file of checkpoints")
+    return "bank" if title[1:] == BANK[1:] else "hold"
+
+
+def setup_of(path):
+    """The digest of the setup that a file was made for."""
+    image = image_of(path)
+    if len(image) < HEADER or image[:12] not in (BANK, HOLD):
+        raise Refused(f"{path} has no setup yet")
+    return bytes(image[12:44])
+
+
+def read_hold(path, digest=None):
+    """The worlds of a file of checkpoints, in order. A digest of a setup, where one is given, must be the file's."""
+    return worlds_in(image_of(path), digest, str(path))
+
+
+def worlds_in(image, digest=None, what="tierra.hold"):
+    """The worlds in the bytes of a file of checkpoints. They are refused as `hold` refuses them: see "Checkpoints"."""
+    if is_fresh(image, HOLD):
+        return []
+    if image[:12] != HOLD:
+        raise Refused(f"{what} is not a checkpoint")
+    check_setup(image, digest, what)
+    parts = parts_of(image, top_bit=False)
+    if isinstance(parts, int):
+        raise Refused(f"{what}: frame {parts} is damaged")
+    worlds = []
+    for place, (begin, end, _) in enumerate(parts):
+        try:
+            worlds.append(World(memoryview(image)[begin:end]))
+            whole = place + 1 < len(parts) or worlds[-1].parts[2] == end - begin
+        except ValueError:
+            whole = False
+        if not whole:
+            raise Refused(f"{what}: frame {place} is damaged")
+    return worlds
+
+
+def read_bank(path, digest=None):
+    """The saved genotypes of a genebank, in order. A digest of a setup, where one is given, must be the file's."""
+    return saved_in(image_of(path), digest, str(path))
+
+
+def saved_in(image, digest=None, what="tierra.bank"):
+    """The saved genotypes in the bytes of a genebank. They are refused as `bank` refuses them: see "The genebank's file"."""
+    if is_fresh(image, BANK):
+        return []
+    if image[:12] != BANK:
+        raise Refused(f"{what} is not a genebank")
+    check_setup(image, digest, what)
+    parts = parts_of(image, top_bit=True)
+    if isinstance(parts, int):
+        raise Refused(f"{what}: group {parts} is damaged")
+    saved = []
+    for place, (begin, end, form_two) in enumerate(parts):
+        group = group_in(image[begin:end], form_two)
+        if group is None:
+            raise Refused(f"{what}: group {place} is damaged")
+        saved += group
+    return saved
+
+
+def group_in(payload, form_two):
+    """The saved genotypes of a group's payload, or None where it has other bytes than a group."""
+    quantum, count, at, saved = number(payload, 0, 8), number(payload, 8, 4), 12, []
+    for _ in range(count):
+        head = 24 + (32 if form_two else 0)
+        size, rank, parent, parent_rank = (number(payload, at + place, width) for place, width in ((0, 4), (4, 8), (12, 4), (16, 8)))
+        efforts = efforts_at(payload, at + 24) if form_two else dict.fromkeys(EFFORTS)
+        code = payload[at + head : at + head + size]
+        at += head + size
+        if at > len(payload) or not code or max(code) > 31:
+            return None
+        saved.append(Saved(name_of(size, rank), size, quantum, name_of(parent, parent_rank) if parent else None, efforts, code))
+    return saved if saved and at == len(payload) else None

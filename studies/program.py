@@ -1,0 +1,55 @@
+"""Finds the program and runs it. The program is that of `--program`, or of the variable ZULDOKAN_PROGRAM, or the one that the
+script `tierra` of this repository says it has built."""
+import hashlib
+import os
+import pathlib
+import subprocess
+
+from .refusal import Refused
+
+TOP = pathlib.Path(__file__).resolve().parent.parent
+
+
+def add_argument(parser):
+    parser.add_argument("--program", help="the program; else the variable ZULDOKAN_PROGRAM, else what ./tierra has built")
+
+
+def find(named=None):
+    """The path of the program."""
+    named = named or os.environ.get("ZULDOKAN_PROGRAM")
+    if not named:
+        where = subprocess.run([TOP / "tierra", "--where"], capture_output=True, text=True)
+        if where.returncode:
+            raise Refused("the program is not built yet: run ./tierra once, or name another one with --program")
+        named = where.stdout.strip()
+    if not os.access(named, os.X_OK) or not os.path.isfile(named):
+        raise Refused(f"{named} is no program")
+    return os.path.abspath(named)
+
+
+def digest(path):
+    """The SHA-256 of the program's file, which tells one build from another."""
+    return hashlib.sha256(pathlib.Path(path).read_bytes()).hexdigest()
+
+
+def commit():
+    """The commit of this repository, with `+` where its files were changed since; None outside a repository."""
+    asked = ["git", "-C", str(TOP), "describe", "--always", "--abbrev=40", "--exclude=*", "--dirty=+"]
+    try:
+        said = subprocess.run(asked, capture_output=True, text=True)
+    except OSError:
+        return None
+    return said.stdout.strip() if said.returncode == 0 else None
+
+
+def run(path, words, source="", folder=".", out=None):
+    """Runs an action to its end and gives what it prints, or writes that to the open file `out`. What the program refuses is
+    refused with the program's own line."""
+    answer = subprocess.run(
+        [path, *map(str, words)], input=source.encode(), cwd=folder, stdout=out or subprocess.PIPE, stderr=subprocess.PIPE
+    )
+    if answer.returncode:
+        line = answer.stderr.decode(errors="replace").strip().splitlines()[-1:] or ["tierra said nothing"]
+        how = f"signal {-answer.returncode}" if answer.returncode < 0 else f"status {answer.returncode}"
+        raise Refused(f"{words[0]} ended with {how}: {line[0]}")
+    return "" if out else answer.stdout.decode()

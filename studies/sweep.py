@@ -1,0 +1,207 @@
+"""Runs one soup file with many seeds and settings, each run in a folder of its own.
+
+  zuldokan sweep ../examples/parasites.toml --set copy_rate=500,1000 --seeds 0-63 --quanta 1000000
+
+A folder gets its soup file `soup.toml`, what the program prints (`run.txt`, `hold.txt` or `curve.txt`), the file that the
+program keeps, `notes.json` (what was asked, the digest of the setup, the command, the program's SHA-256, the commit of the
+repository) and `times.json` (UTC, and seconds). Each soup file is read back before anything runs, and no two may be one setup.
+A folder with `notes.json` is finished and is left alone. A sweep that was interrupted goes on when it is started again.
+Each quantum is run once: `run` keeps a genebank, `hold` checkpoints, and `curve` prints births and deaths.
+"""
+import concurrent.futures
+import copy
+import datetime
+import itertools
+import json
+import os
+import pathlib
+import re
+
+import tqdm
+
+from . import files, program, soup
+from .refusal import Refused
+
+KEPT = {"run": "tierra.bank", "hold": "tierra.hold", "curve": None}
+
+
+def add_arguments(parser):
+    parser.add_argument("soup", help="the soup file that the runs share")
+    parser.add_argument("--quanta", type=int, required=True, help="quanta of each run, up to 4,000,000")
+    parser.add_argument("--seeds", help="numbers and ranges, as 0-63,100; without it the file's own seed")
+    parser.add_argument("--set", action="append", default=[], metavar="KEY=VALUE,..", help="a setting with the values that it takes")
+    parser.add_argument("--action", choices=KEPT, default="run", help="what each run does (default run)")
+    parser.add_argument("--every", type=int, help="quanta between two checkpoints of hold, or two counts of curve")
+    parser.add_argument("--into", default=".", help="the folder of the folders (default this one)")
+    parser.add_argument("--jobs", type=int, default=1, help="how many runs at once (default 1)")
+    parser.add_argument("--list", action="store_true", help="print the names of the folders and run nothing")
+    parser.add_argument("--one", metavar="NAME", help="do the run of this folder alone, or of this number, counted from 0")
+    program.add_argument(parser)
+
+
+def seeds_of(text):
+    """The seeds that a text such as `0-63,100` names."""
+    seeds = []
+    for part in text.split(","):
+        found = re.fullmatch(r"(\d+)(?:-(\d+))?", part)
+        if not found or found[2] and int(found[2]) < int(found[1]):
+            raise Refused(f"--seeds: {part} is neither a number nor a range")
+        seeds += range(int(found[1]), int(found[2] or found[1]) + 1)
+    return seeds
+
+
+def values_of(words):
+    """The values that the words of `--set` give to each key."""
+    values = {}
+    for word in words:
+        key, equals, texts = word.partition("=")
+        if not equals or key in values:
+            raise Refused(f"--set {word}: " + ("each key comes once" if equals else "KEY=VALUE,.. was expected"))
+        values[key] = [soup.value_of(key, text) for text in texts.split(",")]
+    return values
+
+
+def asked_for(values, seeds):
+    """What each run asks for, by the name of its folder: the settings to put into the soup file."""
+    asked = {}
+    for seed, chosen in itertools.product(seeds, itertools.product(*values.values())):
+        settings = dict(zip(values, chosen))
+        parts = [f"{key}{str(value).lower()}" for key, value in settings.items()]
+        if seed is not None:
+            settings["seed"] = f"{seed:064x}"
+            parts.insert(0, f"seed{seed}")
+        if len(settings.get("seed", "")) > 64:
+            raise Refused(f"seed {seed} has more than 64 hexadecimal digits")
+        name = "_".join(parts) or "run"
+        if name in asked:
+            raise Refused(f"{name} was asked for twice")
+        asked[name] = settings
+    return asked
+
+
+def changed(document, settings):
+    """The text of a document with these settings, read back by another reader of TOML: it says what was asked and no more."""
+    changing = copy.deepcopy(document)
+    for key, value in settings.items():
+        changing[key] = value
+    text = soup.text_of(changing)
+    said, before = soup.plain(text), document.unwrap()
+    if said != before | settings:
+        raise Refused(f"the soup file does not take {', '.join(settings)}: it would say something else")
+    return text
+
+
+def texts_of(document, asked):
+    """The soup file of each run, by name. No two are the same setup."""
+    texts, names = {}, {}
+    for name, settings in asked.items():
+        texts[name] = changed(document, settings)
+        other = names.setdefault(soup.digest(soup.plain(texts[name])), name)
+        if other != name:
+            raise Refused(f"{other} and {name} would be the same run")
+    return texts
+
+
+def replace(path, text):
+    """Writes a file so that it is there whole or not at all."""
+    part = path.with_name(path.name + ".part")
+    with open(part, "w", encoding="utf-8") as file:
+        file.write(text)
+        file.flush()
+        os.fsync(file.fileno())
+    os.replace(part, path)
+
+
+def now():
+    return datetime.datetime.now(datetime.timezone.utc)
+
+
+def is_finished(folder, notes):
+    """Whether a folder has this run already. A folder with another run is refused."""
+    path = folder / "notes.json"
+    if not path.exists():
+        return False
+    try:
+        kept = json.loads(path.read_text())
+    except ValueError as fault:
+        raise Refused(f"{path} is damaged") from fault
+    for key in ("setup", "command", "program"):
+        if kept.get(key) != notes[key]:
+            raise Refused(f"{folder} has a run of another {key}: take another folder")
+    return True
+
+
+def do_run(folder, text, notes, named):
+    """Does one run in its folder, unless it is finished. Gives whether it ran."""
+    if is_finished(folder, notes):
+        return False
+    folder.mkdir(parents=True, exist_ok=True)
+    path, begun = folder / "soup.toml", now()
+    if path.exists() and path.read_text(encoding="utf-8") != text:
+        raise Refused(f"{folder} has another soup file: take another folder")
+    replace(path, text)
+    words = notes["command"].split()
+    part = folder / f"{words[0]}.txt.part"
+    try:
+        with open(part, "wb") as out:
+            program.run(named, words, text, folder, out)
+            os.fsync(out.fileno())
+    except Refused as fault:
+        raise Refused(f"{folder.name}: {fault}") from fault
+    kept = KEPT[words[0]]
+    if kept and files.setup_of(folder / kept).hex() != notes["setup"]:
+        raise Refused(f"{folder.name}: the program read another setup than the soup file says")
+    os.replace(part, part.with_suffix(""))
+    ended = now()
+    times = {"begun": begun.isoformat(), "ended": ended.isoformat(), "seconds": round((ended - begun).total_seconds(), 3)}
+    replace(folder / "times.json", json.dumps(times, indent=1) + "\n")
+    replace(folder / "notes.json", json.dumps(notes, indent=1) + "\n")
+    return True
+
+
+def command_of(args):
+    """The words for the program."""
+    if not 1 <= args.quanta <= soup.MOST_QUANTA:
+        raise Refused(f"--quanta is from 1 to {soup.MOST_QUANTA:,}")
+    if args.action == "run" and args.every is not None:
+        raise Refused("--every goes with --action hold or curve")
+    every = f" --every {args.every}" if args.every is not None else ""
+    return f"{args.action} --quanta {args.quanta}{every}"
+
+
+def chosen(texts, one):
+    """The runs to do: all, or the one that a name or a number names."""
+    if one is None:
+        return list(texts)
+    if one in texts:
+        return [one]
+    if one.isdecimal() and int(one) < len(texts):
+        return [list(texts)[int(one)]]
+    raise Refused(f"--one: there is no run {one} among {len(texts)}")
+
+
+def run(args):
+    seeds = seeds_of(args.seeds) if args.seeds else [None]
+    asked = asked_for(values_of(args.set), seeds)
+    texts = texts_of(soup.read(args.soup), asked)
+    command, names = command_of(args), chosen(texts, args.one)
+    if args.list:
+        print("\n".join(texts))
+        return
+    if args.jobs < 1:
+        raise Refused("--jobs is at least 1")
+    named, top = program.find(args.program), pathlib.Path(args.into)
+    shared = {"command": command, "program": program.digest(named), "commit": program.commit()}
+    jobs = []
+    for name in names:
+        notes = {"asked": asked[name], "setup": soup.digest(soup.plain(texts[name])).hex(), **shared}
+        is_finished(top / name, notes)
+        jobs.append((top / name, texts[name], notes, named))
+    with concurrent.futures.ThreadPoolExecutor(args.jobs) as pool:
+        running = [pool.submit(do_run, *job) for job in jobs]
+        try:
+            for done in tqdm.tqdm(concurrent.futures.as_completed(running), total=len(running), unit="run", disable=None):
+                done.result()
+        except BaseException:
+            pool.shutdown(wait=False, cancel_futures=True)
+            raise

@@ -1,0 +1,58 @@
+"""Soup files and listings, against the tables of docs/MODEL.md."""
+import re
+import tomllib
+
+import pytest
+
+from studies import files, soup
+from studies.refusal import Refused
+
+from .conftest import DATA, TOP
+
+MODEL = (TOP / "docs/MODEL.md").read_text()
+
+
+def test_instructions_are_those_of_the_model():
+    table = MODEL.split("| code | name | meaning |")[1].split("\n\n")[0]
+    told = {}
+    for codes, names in re.findall(r"^\| ([0-9a-f][0-9a-f to]*) \| ([\w ]+?) \|", table, re.M):
+        if " to " in codes:
+            first, last = (int(code, 16) for code in codes.split(" to "))
+            codes = " ".join(f"{code:02x}" for code in range(first, last + 1))
+        told.update(zip((int(code, 16) for code in codes.split()), names.replace(" to ", " ").split()))
+    assert {code: name for code, name in enumerate(soup.INSTRUCTIONS) if told.get(code) == name} == told
+    assert len(told) == 32
+
+
+def test_settings_are_those_of_the_model():
+    told = {}
+    for keys, kind, default in re.findall(r"^\| (`\w+`.*?) \| (integer|string|boolean) \| (.*?) \|", MODEL, re.M):
+        value = {"integer": int, "boolean": lambda text: text == "true", "string": lambda text: "0" * 64}[kind](default)
+        told |= dict.fromkeys(re.findall(r"`(\w+)`", keys), value)
+    assert told == soup.SETTINGS
+
+
+@pytest.mark.parametrize("name, file", [("mixed", "mixed.hold"), ("mixed", "mixed.bank"), ("small", "small.hold")])
+def test_digest_is_the_programs(name, file):
+    assert soup.digest(soup.read(DATA / f"{name}.toml")) == files.setup_of(DATA / file)
+
+
+def test_listing_and_back():
+    code = bytes(range(32))
+    assert soup.code_of_listing(soup.listing_of_code(code)) == code
+    with pytest.raises(Refused, match="line 2: unknown instruction zoro"):
+        soup.code_of_listing("zero ; zoro\nzoro")
+    with pytest.raises(Refused, match="empty"):
+        soup.code_of_listing("; nothing\n")
+
+
+def test_creatures_are_put_in(monkeypatch):
+    document = soup.read(TOP / "examples/soup.toml")
+    text = soup.text_of(soup.with_creatures(document, [(7, b"\x00\x1f", "0002aaa of a run"), (20, b"\x04", None)]))
+    said = tomllib.loads(text)
+    assert [(one["at"], one["code"].split()) for one in said["creature"]] == [(7, ["nop_0", "divide"]), (20, ["zero"])]
+    assert "# 0002aaa of a run" in text and "# cells" in text
+    assert soup.MOST_BYTES == 1048576  # of docs/MODEL.md, "What the words ask for"
+    monkeypatch.setattr(soup, "MOST_BYTES", len(text) - 1)
+    with pytest.raises(Refused, match="the soup file would have"):
+        soup.text_of(soup.parse(text))
