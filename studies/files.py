@@ -1,6 +1,6 @@
 """Reads the two files that the program keeps, tierra.bank and tierra.hold. No other module reads them.
 
-The layouts are the tables of docs/MODEL.md: "The genebank's file" and "The genebank's bytes" for a genebank, "Checkpoints"
+The layouts are the tables of docs/FORMATS.md: "Both files"; "The genebank's bytes" for a genebank; "The file of checkpoints"
 and "A world's bytes" for a file of checkpoints. Numbers are unsigned, with the most significant byte first.
 A file is checked to its end before anything of it is given: what the program would refuse is refused here.
 """
@@ -19,7 +19,7 @@ from .refusal import Refused
 HEADER = 45  # the title in 12 bytes, the digest of the setup in 32, and the gate of the first part
 BANK, HOLD = b"Tierra bank1", b"Tierra hold1"
 REGISTERS = ["ax", "bx", "cx", "dx"]
-# The row "a creature" of the table in "A world's bytes".
+# The table of a creature in "A world's bytes".
 CREATURE = numpy.dtype(
     [("id", ">u8"), ("at", ">u4"), ("size", ">u4"), ("daughter_at", ">u4"), ("daughter_size", ">u4"), ("moved", ">u8")]
     + [(register, ">i4") for register in REGISTERS]
@@ -52,7 +52,7 @@ def efforts_at(data, at):
 
 
 class World:
-    """The world that a frame holds: "A world's bytes" of docs/MODEL.md, part by part. The genotypes are read when first asked for."""
+    """The world that a frame holds: "A world's bytes" of docs/FORMATS.md, part by part. The genotypes are read when first asked for."""
 
     def __init__(self, state):
         self.state = state
@@ -192,7 +192,7 @@ def read_hold(path, digest=None):
 
 
 def worlds_in(image, digest=None, what="tierra.hold"):
-    """The worlds in the bytes of a file of checkpoints. They are refused as `hold` refuses them: see "Checkpoints"."""
+    """The worlds in the bytes of a file of checkpoints. They are refused as `hold` refuses them: see "The file of checkpoints"."""
     if is_fresh(image, HOLD):
         return []
     if image[:12] != HOLD:

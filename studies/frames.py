@@ -12,7 +12,7 @@
                  many ever lived), efforts (instructions run and cells moved for the first and second daughter), quantum that saved
                  it, code in hexadecimal digits
 
-The file's layout is in docs/MODEL.md, "A world's bytes". A file that `hold` would refuse is refused.
+The file's layout is in docs/FORMATS.md, "A world's bytes". A file that `hold` would refuse is refused.
 """
 import pathlib
 

@@ -3,7 +3,7 @@
   zuldokan listing < 0080aaa.tie | tierra asm
   zuldokan listing --only 0044aac < genotypes.fasta | tierra grow
 
-Of a .tie the header is dropped, up to the line `CODE` if there is one, and instructions get the names of docs/MODEL.md. Known are the
+Of a .tie the header is dropped, up to the line `CODE` if there is one, and instructions get the names of docs/RULES.md. Known are the
 names of Tierra's releases in any case and with or without underscores: nop1, nop_1; not0, or1; subCAB, sub_ab; incA, incax, inc_a;
 pushA, pushax; movDC, movdc, mov_cd; movii, mov_iab; adro; and so on. What follows a semicolon is a comment. Any other word is refused
 with its line, and so is a second track. FASTA has the alphabet of `zuldokan genotypes`.

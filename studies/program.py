@@ -20,7 +20,7 @@ def find(named=None):
     if not named:
         where = subprocess.run([TOP / "tierra", "--where"], capture_output=True, text=True)
         if where.returncode:
-            raise Refused("the program is not built yet: run ./tierra once, or name another one with --program")
+            raise Refused("the program is not built yet: run ./tierra once, or name another one with --program or ZULDOKAN_PROGRAM")
         named = where.stdout.strip()
     if not os.access(named, os.X_OK) or not os.path.isfile(named):
         raise Refused(f"{named} is no program")

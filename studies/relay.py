@@ -2,7 +2,7 @@
 
   zuldokan relay ../examples/parasites.toml --quanta 4000000 --legs 5 --into long
 
-What carries over is what carries over between the epochs of `tierra isles --isles 1` (docs/MODEL.md, "Isles"): each living creature's
+What carries over is what carries over between the epochs of `tierra isles --isles 1` (docs/RULES.md, "Isles"): each living creature's
 own block, at its place, in the order of the slicer queue. Registers, errors, daughter blocks and what nobody owns are lost, creatures
 and genotypes are numbered anew, and quanta count from 1. The seed of leg E is the SHA-256 of the file's seed, E and 1. So the report of
 the last leg is that of `tierra isles --isles 1 --epochs E`.

@@ -1,4 +1,4 @@
-"""Soup files and listings: the tables of docs/MODEL.md ("Instructions", "Soup files"), and tomlkit, which keeps comments."""
+"""Soup files and listings: "Instructions" of docs/RULES.md, "Soup files" of docs/FORMATS.md, and tomlkit, which keeps comments."""
 import copy
 import hashlib
 import pathlib
@@ -124,7 +124,7 @@ def value_of(key, text):
 
 
 def setup_bytes(document):
-    """The bytes of which the digest of a setup is made ("The genebank's bytes" in docs/MODEL.md)."""
+    """The bytes of which the digest of a setup is made ("A setup's bytes" in docs/FORMATS.md)."""
     values = settings(document)
     parts = []
     try:

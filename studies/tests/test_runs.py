@@ -40,7 +40,7 @@ def test_tie_and_listing_and_back(told, kind):
         assert "genotype: 0044aad  parent genotype: 0044aaa\n1st_daughter:  flags: 0  inst: 478  mov_daught: 44\n" in text
 
 
-# Names of Tierra's releases, each with the one of docs/MODEL.md.
+# Names of Tierra's releases, each with the one of docs/RULES.md.
 @pytest.mark.parametrize(
     "theirs, ours",
     [

@@ -1,4 +1,4 @@
-"""Soup files and listings, against the tables of docs/MODEL.md."""
+"""Soup files and listings, against the tables of docs/RULES.md and docs/FORMATS.md."""
 import re
 import tomllib
 
@@ -9,11 +9,11 @@ from studies.refusal import Refused
 
 from .conftest import DATA, TOP
 
-MODEL = (TOP / "docs/MODEL.md").read_text()
+RULES, FORMATS = ((TOP / "docs" / page).read_text() for page in ("RULES.md", "FORMATS.md"))
 
 
-def test_instructions_are_those_of_the_model():
-    table = MODEL.split("| code | name | meaning |")[1].split("\n\n")[0]
+def test_instructions_are_those_of_the_rules():
+    table = RULES.split("| code | name | meaning |")[1].split("\n\n")[0]
     told = {}
     for codes, names in re.findall(r"^\| ([0-9a-f][0-9a-f to]*) \| ([\w ]+?) \|", table, re.M):
         if " to " in codes:
@@ -24,9 +24,9 @@ def test_instructions_are_those_of_the_model():
     assert len(told) == 32
 
 
-def test_settings_are_those_of_the_model():
+def test_settings_are_those_of_the_formats():
     told = {}
-    for keys, kind, default in re.findall(r"^\| (`\w+`.*?) \| (integer|string|boolean) \| (.*?) \|", MODEL, re.M):
+    for keys, kind, default in re.findall(r"^\| (`\w+`.*?) \| (integer|string|boolean) \| (.*?) \|", FORMATS, re.M):
         value = {"integer": int, "boolean": lambda text: text == "true", "string": lambda text: "0" * 64}[kind](default)
         told |= dict.fromkeys(re.findall(r"`(\w+)`", keys), value)
     assert told == soup.SETTINGS
@@ -52,7 +52,7 @@ def test_creatures_are_put_in(monkeypatch):
     said = tomllib.loads(text)
     assert [(one["at"], one["code"].split()) for one in said["creature"]] == [(7, ["nop_0", "divide"]), (20, ["zero"])]
     assert "# 0002aaa of a run" in text and "# cells" in text
-    assert soup.MOST_BYTES == 1048576  # of docs/MODEL.md, "What the words ask for"
+    assert soup.MOST_BYTES == 1048576  # of docs/FORMATS.md, "What the words ask for"
     monkeypatch.setattr(soup, "MOST_BYTES", len(text) - 1)
     with pytest.raises(Refused, match="the soup file would have"):
         soup.text_of(soup.parse(text))
