@@ -2,21 +2,28 @@
 //! `ChaCha8Rng`, from the stream whose number is the quantum.
 #![tactic(auto)]
 
+mod block;
+mod entry;
 mod reading;
+mod tape;
 
-ghost use Rattle.std.specs.Prelude.{◌≡◌, ◌+◌, ◌*◌, [], ◌∷◌, IfSome};
-ghost use Rattle.rand_chacha.specs.ChaCha.{key_of};
+ghost use Rattle.std.specs.Prelude.{◌≡◌, ◌+◌, ◌*◌, [], ◌∷◌};
 ghost use Rattle.tierra_model.specs.Draw.{back_flip, copy_bit, flaw, word};
 ghost use Rattle.mutation_streams.specs.Draws.{draws_of};
+ghost use Rattle.mutation_streams.specs.Entries.{chance_of, entry_of};
 
+pub use crate::block::Block;
+use crate::entry::Chance;
+pub use crate::entry::Entry;
 use crate::reading::Reading;
+pub use crate::tape::{NoTape, Tape};
 use std::marker::Model;
 use tierra_model::Settings;
 
 /// The draws of one quantum. A rate R is due at a word that R divides, and at none where R is 0.
 ///
 /// The words are found by number. If they are asked for in order, the stream is read on, and each block of it is made
-/// only once.
+/// only once. Where an entry tells what is due in the first `reach` instructions, no word is made for these.
 #[derive(Debug, Drop)]
 pub struct Draws {
     seed: [u8; 32],
@@ -26,12 +33,15 @@ pub struct Draws {
     copy_rate: u32,
     flaw_rate: u32,
     reading: Option<Reading>,
+    reach: u32,
+    entry: Entry,
 }
 
 impl Model for Draws {
     ghost use Rattle.std.specs.Prelude.{◌≡◌, ◌<◌, IfSome};
     ghost use Rattle.rand_chacha.specs.ChaCha.{key_of};
     ghost use Rattle.mutation_streams.specs.Draws.{DrawFields};
+    ghost use Rattle.mutation_streams.specs.Entries.{entry_of};
 
     ghost Value = { DrawFields };
 
@@ -45,7 +55,15 @@ impl Model for Draws {
     } };
 
     ghost invariant = { λ d. (0 < d.soup_size)
-        × IfSome d.reading (λ r. (r.key ≡ key_of d.seed) × (r.stream ≡ d.quantum)) };
+        × IfSome d.reading (λ r. (r.key ≡ key_of d.seed) × (r.stream ≡ d.quantum))
+        × (0 < d.reach → d.entry ≡ entry_of (record {
+          seed = d.seed;
+          quantum = d.quantum;
+          soup_size = d.soup_size;
+          back_rate = d.back_rate;
+          copy_rate = d.copy_rate;
+          flaw_rate = d.flaw_rate;
+        }) d.reach) };
 }
 
 impl Draws {
@@ -62,6 +80,21 @@ impl Draws {
             copy_rate: settings.copy_rate,
             flaw_rate: settings.flaw_rate,
             reading: None,
+            reach: 0,
+            entry: Entry::nothing(),
+        }
+    }
+
+    /// The same draws, from the quantum's entry.
+    #[inline]
+    pub fn of_entry(settings: &Settings, q: u64, reach: u32, entry: Entry) -> Draws
+        requires { entry ≡ entry_of (draws_of settings.now q) reach }
+        ensures { result ≡ draws_of settings.now q }
+    {
+        Draws {
+            reach,
+            entry,
+            ..Draws::new(settings, q)
         }
     }
 
@@ -74,6 +107,9 @@ impl Draws {
         if self.back_rate == 0 {
             return None;
         }
+        if self.reach > 0 {
+            return self.entry.back();
+        }
         let [due, cell, bit] = self.first_words();
         if due % self.back_rate != 0 {
             return None;
@@ -83,12 +119,16 @@ impl Draws {
 
     /// The flaw of instruction `i` of the quantum: 1, -1, or 0 for none.
     #[inline]
+    #[tactic(auto, using(crate::proofs::Found::flaw_found))]
     pub fn flaw(&mut self, i: u32) -> i32
         ensures flaw { result ≡ flaw self.old.flaw_rate (word self.old.seed self.old.quantum) i }
         ensures same { self.new ≡ self.old }
     {
         if self.flaw_rate == 0 {
             return 0;
+        }
+        if i < self.reach {
+            return self.entry.flaw(i);
         }
         let [due, sign, _, _] = self.words_of(i);
         if due % self.flaw_rate != 0 {
@@ -99,12 +139,16 @@ impl Draws {
 
     /// The bit that a copy by instruction `i` of the quantum flips, if any.
     #[inline]
+    #[tactic(auto, using(crate::proofs::Found::copy_bit_found))]
     pub fn copy_bit(&mut self, i: u32) -> Option<u8>
         ensures bit { result ≡ copy_bit self.old.copy_rate (word self.old.seed self.old.quantum) i }
         ensures same { self.new ≡ self.old }
     {
         if self.copy_rate == 0 {
             return None;
+        }
+        if i < self.reach {
+            return self.entry.copy_bit(i);
         }
         let [_, _, due, bit] = self.words_of(i);
         if due % self.copy_rate != 0 {
@@ -113,8 +157,21 @@ impl Draws {
         Some((bit % 5) as u8)
     }
 
+    /// What chance does at instruction `i`.
+    pub(crate) fn chance(&mut self, i: u32) -> Chance
+        ensures chance { result ≡ chance_of self.old i }
+        ensures same { self.new ≡ self.old }
+    {
+        Chance {
+            instruction: i,
+            flaw: self.flaw(i),
+            copy_bit: self.copy_bit(i),
+        }
+    }
+
     // Words 0 to 2.
     #[tactic(auto, unfolding(tierra_model::specs::Draw::word))]
+    #[inline(never)]
     fn first_words(&mut self) -> [u32; 3]
         ensures words { let w = word self.old.seed self.old.quantum in result ≡ w 0 ∷ w 1 ∷ w 2 ∷ [] }
         ensures same { self.new ≡ self.old }
@@ -140,12 +197,22 @@ impl Draws {
     {
         match &mut self.reading {
             Some(reading) => reading.words_of(i),
-            None => {
-                let mut reading = Reading::start(&self.seed, self.quantum);
-                let words = reading.words_of(i);
-                self.reading = Some(reading);
-                words
-            }
+            None => self.start(i),
         }
+    }
+
+    // The same, where nothing was read before. It is apart, so that the other draws of a quantum stay small in the code
+    // of their callers.
+    #[tactic(auto, unfolding(tierra_model::specs::Draw::word))]
+    #[inline(never)]
+    fn start(&mut self, i: u32) -> [u32; 4]
+        ensures words { let w = word self.old.seed self.old.quantum in
+            result ≡ w (3 + 4 * i) ∷ w (4 + 4 * i) ∷ w (5 + 4 * i) ∷ w (6 + 4 * i) ∷ [] }
+        ensures same { self.new ≡ self.old }
+    {
+        let mut reading = Reading::start(&self.seed, self.quantum);
+        let words = reading.words_of(i);
+        self.reading = Some(reading);
+        words
     }
 }
