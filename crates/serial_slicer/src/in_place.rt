@@ -8,6 +8,7 @@ ghost use Rattle.tierra_model.specs.World.{first_of, front};
 
 use crate::slice::run_quantum;
 use crate::sole::Sole;
+use mutation_streams::{NoTape, Tape};
 use std::alloc::Global;
 use std::marker::{Brand, Model};
 use std::sync::ledger::{Blank, Ledger};
@@ -86,10 +87,11 @@ impl InPlace {
         counted_next::<Brand>(alloc, &mut self.sole, Blank::new(1))
     }
 
-    /// The next quantum, with a count of its instructions.
-    pub fn next_counted<L: Ledger>(
+    /// The next quantum, with draws off the tape and with a count of its instructions.
+    pub fn next_counted<T: Tape, L: Ledger>(
         &mut self,
         alloc: Global,
+        tape: &mut T,
         steps: &mut Steps<L>,
     ) -> Result<(), OutOfMemory>
         requires sound { IsSound self.old }
@@ -99,7 +101,7 @@ impl InPlace {
             ≡ steps.old + slice_of (front self.old).own.size self.old.settings) }
     {
         let settings = *self.sole.settings();
-        run_quantum(alloc, &mut self.sole, &settings, steps)
+        run_quantum(alloc, &mut self.sole, tape, &settings, steps)
     }
 
     /// The world between two quanta. If there is no memory for it, it is lost.
@@ -123,5 +125,5 @@ fn counted_next<L: Ledger>(alloc: Global, sole: &mut Sole, blank: Blank) -> Resu
 {
     let settings = *sole.settings();
     let mut steps = Steps::<L>::start(blank);
-    run_quantum(alloc, sole, &settings, &mut steps)
+    run_quantum(alloc, sole, &mut NoTape, &settings, &mut steps)
 }

@@ -15,6 +15,7 @@ ghost use Rattle.serial_slicer.specs.Onward.{after};
 pub use crate::in_place::InPlace;
 use crate::slice::run_quantum;
 use crate::sole::Sole;
+use mutation_streams::NoTape;
 use std::alloc::Global;
 use std::marker::Brand;
 use std::sync::ledger::{Blank, Ledger};
@@ -60,7 +61,7 @@ fn run_quanta<L: Ledger>(
     let settings = *sole.settings();
     let mut steps = Steps::<L>::start(blank);
     for _quantum in 0..n {
-        run_quantum(alloc, sole, &settings, &mut steps)?;
+        run_quantum(alloc, sole, &mut NoTape, &settings, &mut steps)?;
     }
     Ok(())
 }

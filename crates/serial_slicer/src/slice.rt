@@ -15,17 +15,18 @@ ghost use Rattle.serial_slicer.specs.Turns.{InQuantum, IsTurn};
 use crate::mal::mal;
 use crate::sole::Sole;
 use cpu_core::step;
-use mutation_streams::Draws;
+use mutation_streams::{Draws, Tape};
 use slicer_queue::slice_of;
 use std::alloc::Global;
 use std::sync::ledger::Ledger;
 use step_count::Steps;
 use tierra_model::{Act, Creature, OutOfMemory, Settings};
 
-/// The next quantum.
-pub(crate) fn run_quantum<L: Ledger>(
+/// The next quantum, with draws off the tape.
+pub(crate) fn run_quantum<T: Tape, L: Ledger>(
     alloc: Global,
     sole: &mut Sole,
+    tape: &mut T,
     settings: &Settings,
     steps: &mut Steps<L>,
 ) -> Result<(), OutOfMemory>
@@ -36,7 +37,7 @@ pub(crate) fn run_quantum<L: Ledger>(
     ensures ticks { OnOk result (steps.new
         ≡ steps.old + slice_of (front sole.old.world).own.size sole.old.world.settings) }
 {
-    let mut draws = Draws::new(settings, sole.quanta() + 1);
+    let mut draws = tape.draws(settings, sole.quanta() + 1);
     sole.flip(&mut draws);
     disturb(sole, settings)?;
     let mut creature = sole.begin_turn();

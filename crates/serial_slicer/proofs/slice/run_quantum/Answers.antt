@@ -28,7 +28,7 @@ loop-i-init g c =
     record {
       turn = b.turn;
       world = taken c.args.settings.now c.args.sole.now.world c.requires.sound c.requires.more c.requires.settings c.disturb.new.sole.world c.begin_turn-creature.new.self.world c.begin_turn-creature.result none b.world b.record;
-      draws = c.flip.ensures.draws ∙ c.new-draws.ensures ∙ ap (λ n. draws_of c.args.settings.now (n + 1)) c.quanta.ensures;
+      draws = c.flip.ensures.draws ∙ c.draws-draws.ensures ∙ ap (λ n. draws_of c.args.settings.now (n + 1)) c.quanta.ensures;
       ticks = omega arith;
     }
 
