@@ -197,22 +197,12 @@ impl Draws {
     {
         match &mut self.reading {
             Some(reading) => reading.words_of(i),
-            None => self.start(i),
+            None => {
+                let mut reading = Reading::start(&self.seed, self.quantum);
+                let words = reading.words_of(i);
+                self.reading = Some(reading);
+                words
+            }
         }
-    }
-
-    // The same, where nothing was read before. It is apart, so that the other draws of a quantum stay small in the code
-    // of their callers.
-    #[tactic(auto, unfolding(tierra_model::specs::Draw::word))]
-    #[inline(never)]
-    fn start(&mut self, i: u32) -> [u32; 4]
-        ensures words { let w = word self.old.seed self.old.quantum in
-            result ≡ w (3 + 4 * i) ∷ w (4 + 4 * i) ∷ w (5 + 4 * i) ∷ w (6 + 4 * i) ∷ [] }
-        ensures same { self.new ≡ self.old }
-    {
-        let mut reading = Reading::start(&self.seed, self.quantum);
-        let words = reading.words_of(i);
-        self.reading = Some(reading);
-        words
     }
 }

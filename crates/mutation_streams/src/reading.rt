@@ -31,7 +31,8 @@ impl Model for Reading {
 }
 
 impl Reading {
-    /// Begins at instruction 0.
+    /// Begins at instruction 0. (It is not put into the code of each caller, so that the other draws stay small there.)
+    #[inline(never)]
     pub(crate) fn start(seed: &[u8; 32], stream: u64) -> Reading
         ensures { result ≡ record { key = key_of seed.now; stream = stream; instruction = 0 } }
     {
