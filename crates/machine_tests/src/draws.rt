@@ -1,7 +1,8 @@
 //! Draws against words of ChaCha8 that another program worked out.
 
-use mutation_streams::Draws;
-use tierra_model::Settings;
+use mutation_streams::{Block, Draws, Entry, NoTape, Tape};
+use std::alloc::Global;
+use tierra_model::{OutOfMemory, Settings};
 
 const ZEROS: [u8; 32] = [0; 32];
 
@@ -150,5 +151,127 @@ fn nothing_is_drawn_at_no_rate_and_at_the_greatest(rt: HostRuntime) {
                 "quantum {q} instruction {i} rate {rate}"
             );
         }
+    }
+}
+
+/// How many instructions the entries of these tests tell of: fewer than those of the rows, and more.
+const REACHES: [u32; 3] = [0, 1, 10000];
+
+// The same as `drawn`, from the quantum's entry.
+fn drawn_by_entry(
+    alloc: Global,
+    settings: &Settings,
+    q: u64,
+    i: u32,
+    reach: u32,
+) -> Result<Drawn, OutOfMemory> {
+    let entry = Entry::of(alloc, settings, q, reach)?;
+    let mut draws = Draws::of_entry(settings, q, reach, entry);
+    Ok(asked(&mut draws, i))
+}
+
+#[test]
+fn an_entry_says_what_the_stream_says(rt: HostRuntime) {
+    for (seed, q, i, rate, back, flaw, copy_bit) in ROWS {
+        for reach in REACHES {
+            assert_eq!(rt;
+                drawn_by_entry(rt.alloc(), &settings(seed, rate), q, i, reach),
+                Ok((back, flaw, copy_bit)),
+                "quantum {q} instruction {i} rate {rate} reach {reach}"
+            );
+        }
+    }
+}
+
+// The entries of the quantum before q and of the seven after that one, for 25 instructions. At the rates of the rows
+// several things happen in each quantum.
+fn block_at(alloc: Global, settings: &Settings, q: u64) -> Result<Block, OutOfMemory> {
+    Block::write(alloc, settings, q.saturating_sub(1).min(1 << 40), 8, 25)
+}
+
+fn drawn_off_block(
+    alloc: Global,
+    settings: &Settings,
+    q: u64,
+    i: u32,
+) -> Result<Option<Drawn>, OutOfMemory> {
+    let mut block = block_at(alloc, settings, q)?;
+    Ok(
+        block
+            .draws(settings, q)
+            .map(|mut draws| asked(&mut draws, i)),
+    )
+}
+
+#[test]
+fn a_block_has_the_draws_of_its_quanta(rt: HostRuntime) {
+    for (seed, q, i, rate, back, flaw, copy_bit) in ROWS {
+        assert_eq!(rt;
+            drawn_off_block(rt.alloc(), &settings(seed, rate), q, i),
+            Ok(Some((back, flaw, copy_bit))),
+            "quantum {q} instruction {i} rate {rate}"
+        );
+    }
+}
+
+// Asks a block of the entries of quanta 5 to 12 for some quanta, one after another. If it has the last of them, the
+// first quantum whose entry is then left, and the one after the last entry.
+fn left_after(alloc: Global, asked_for: &[u64]) -> Result<Option<(u64, u64)>, OutOfMemory> {
+    let settings = settings(RISING, 2);
+    let mut block = block_at(alloc, &settings, 6)?;
+    let mut left = None;
+    for q in asked_for {
+        let is_there = block.draws(&settings, *q).is_some();
+        left = is_there.then_some((block.first(), block.end()));
+    }
+    Ok(left)
+}
+
+#[test]
+fn a_block_has_each_entry_once(rt: HostRuntime) {
+    let rows: [(&[u64], Option<(u64, u64)>); 7] = [
+        (&[4], None),
+        (&[5], Some((6, 13))),
+        (&[5, 5], None),
+        (&[8], Some((9, 13))),
+        (&[8, 7], None),
+        (&[5, 8, 12], Some((13, 13))),
+        (&[13], None),
+    ];
+    for (asked_for, left) in rows {
+        assert_eq!(rt;
+            left_after(rt.alloc(), asked_for),
+            Ok(left),
+            "quanta {asked_for:?}"
+        );
+    }
+}
+
+fn is_of(alloc: Global, settings: &Settings, other: &Settings) -> Result<bool, OutOfMemory> {
+    let mut block = block_at(alloc, settings, 6)?;
+    Ok(block.draws(other, 6).is_some())
+}
+
+#[test]
+fn a_block_is_of_one_seed_and_of_its_rates(rt: HostRuntime) {
+    let ours = settings(RISING, 2);
+    assert_eq!(rt; is_of(rt.alloc(), &ours, &ours), Ok(true));
+    assert_eq!(rt; is_of(rt.alloc(), &ours, &settings(ZEROS, 2)), Ok(false));
+    assert_eq!(rt; is_of(rt.alloc(), &ours, &settings(RISING, 3)), Ok(false));
+}
+
+// Draws off a tape, as a run asks for them.
+fn drawn_off_tape<T: Tape>(tape: &mut T, settings: &Settings, q: u64, i: u32) -> Drawn {
+    asked(&mut tape.draws(settings, q), i)
+}
+
+#[test]
+fn no_tape_gives_the_draws_of_the_stream(rt: HostRuntime) {
+    for (seed, q, i, rate, back, flaw, copy_bit) in ROWS {
+        assert_eq!(rt;
+            drawn_off_tape(&mut NoTape, &settings(seed, rate), q, i),
+            (back, flaw, copy_bit),
+            "quantum {q} instruction {i} rate {rate}"
+        );
     }
 }
