@@ -1,20 +1,24 @@
 -- A book whose quanta caller 1 commits alone.
-use Rattle.std.specs.Prelude.{length, ℕ, ◌+◌, ◌<◌, ◌≡◌, ◌⊎◌}
+use Rattle.std.specs.Prelude.{length, min, ℕ, ◌+◌, ◌<◌, ◌≡◌, ◌≤◌, ◌⊎◌}
 use Rattle.commit_book.specs.Book.{BookFields, after_commits, steps_of, world_of}
 
 -- how many genotypes are saved
 abbrev pub number_saved : BookFields → ℕ
 number_saved b = length (world_of b).saved
 
--- the work pauses where all quanta are committed, or where more than `kept` genotypes are saved
-abbrev pub Pauses : ℕ → BookFields → Type 0
-Pauses kept b = (b.committed ≡ b.quanta) ⊎ (kept < number_saved b)
+-- how many quanta are committed at the most after a call that commits at most `most`
+abbrev pub last_of : ℕ → BookFields → ℕ
+last_of most b = min b.quanta (b.committed + most)
+
+-- the work pauses where `last` quanta are committed, or where more than `kept` genotypes are saved
+abbrev pub Pauses : (kept last : ℕ) → BookFields → Type 0
+Pauses kept last b = (last ≤ b.committed) ⊎ (kept < number_saved b)
 
 -- The new book is the old one after `done` more quanta, the least number after which the work pauses. Caller 1 committed
 -- them, and the counter went from t to u.
-pub record WorksOn (kept : ℕ) (old new : BookFields) (t u : ℕ) : Type 0 where
+pub record WorksOn (kept last : ℕ) (old new : BookFields) (t u : ℕ) : Type 0 where
   pub done : ℕ
   pub book : new ≡ after_commits 1 done old
   pub steps : u ≡ t + steps_of 1 done old
-  pub pauses : Pauses kept new
-  pub least : (k : ℕ) → k < done → Pauses kept (after_commits 1 k old) → ⊥
+  pub pauses : Pauses kept last new
+  pub least : (k : ℕ) → k < done → Pauses kept last (after_commits 1 k old) → ⊥

@@ -1,11 +1,12 @@
 //! Quanta that caller 1 commits alone.
 
-ghost use Rattle.std.specs.Prelude.{◌≡◌, ◌↔◌, ◌<◌, ◌⊎◌, IfOk, IsTrue, None, false, replicate};
-ghost use Rattle.commit_book.specs.Alone.{Pauses, WorksOn, number_saved};
+ghost use Rattle.std.specs.Prelude.{◌≡◌, ◌↔◌, ◌≤◌, ◌⊎◌, IfOk, IsTrue, None, false, replicate};
+ghost use Rattle.commit_book.specs.Alone.{Pauses, WorksOn, last_of, number_saved};
 
 use crate::book::Book;
 use crate::commit::is_setup;
 use crate::shown::Shown;
+use mutation_streams::Tape;
 use serial_slicer::InPlace;
 use std::alloc::Global;
 use std::sync::ledger::Ledger;
@@ -13,41 +14,47 @@ use step_count::Steps;
 use tierra_model::{How, OutOfMemory};
 
 impl Book {
-    /// Commits quanta as caller 1, each as `advance` does, until one saves a genotype or all are committed. As long as
-    /// findings are kept, they are compared; the quanta after them run in the world itself. If memory runs out, the
-    /// book is lost.
-    pub fn work_on<L: Ledger>(
+    /// Commits quanta as caller 1, each as `advance` does, until one saves a genotype, all are committed, or `most` are
+    /// done. As long as findings are kept, they are compared; the quanta after them run in the world itself, with draws
+    /// off the tape. If memory runs out, the book is lost.
+    pub fn work_on<T: Tape, L: Ledger>(
         self,
         alloc: Global,
+        tape: &mut T,
+        most: u64,
         steps: &mut Steps<L>,
     ) -> Result<Book, OutOfMemory>
-        ensures { IfOk result (λ b. WorksOn (number_saved self) self b steps.old steps.new) }
+        ensures { IfOk result (λ b. WorksOn (number_saved self) (last_of most self) self b steps.old steps.new) }
     {
         let kept = self.world.kept();
+        let last = self.quanta.min(self.committed.saturating_add(most));
         let mut book = self;
-        'findings: while book.keeps_findings() && !book.pauses(kept) {
+        'findings: while book.keeps_findings() && !book.pauses(kept, last) {
             book.commit_next(alloc, 1, steps)?;
         }
-        book.run_in_place(alloc, kept, steps)
+        book.run_in_place(alloc, tape, kept, last, steps)
     }
 
     // Runs the next quanta in the world itself, until the work pauses.
-    fn run_in_place<L: Ledger>(
+    fn run_in_place<T: Tape, L: Ledger>(
         self,
         alloc: Global,
+        tape: &mut T,
         kept: u64,
+        last: u64,
         steps: &mut Steps<L>,
     ) -> Result<Book, OutOfMemory>
-        requires none { Pauses kept self ⊎ (self.stash ≡ replicate self.window None) }
-        ensures { IfOk result (λ b. WorksOn kept self b steps.old steps.new) }
+        requires within { last ≤ self.quanta }
+        requires none { Pauses kept last self ⊎ (self.stash ≡ replicate self.window None) }
+        ensures { IfOk result (λ b. WorksOn kept last self b steps.old steps.new) }
     {
         is_setup(&self.setup);
         let mut committed = self.committed;
         let mut history = self.history;
         let mut run = InPlace::of(self.world)?;
-        'quanta: while committed < self.quanta && run.kept() <= kept {
+        'quanta: while committed < last && run.kept() <= kept {
             history.push(run.first(), 1, How::Missing)?;
-            run.next_counted(alloc, steps)?;
+            run.next_counted(alloc, tape, steps)?;
             committed += 1;
         }
         let world = run.finish(alloc)?;
@@ -66,12 +73,11 @@ impl Book {
         })
     }
 
-    // Whether all quanta are committed, or more than `kept` genotypes are saved.
-    fn pauses(&self, kept: u64) -> bool
-        ensures pauses { IsTrue result ↔ Pauses kept self.now }
-        ensures more { result ≡ false → self.now.committed < self.now.quanta }
+    // Whether `last` quanta are committed, or more than `kept` genotypes are saved.
+    fn pauses(&self, kept: u64, last: u64) -> bool
+        ensures { IsTrue result ↔ Pauses kept last self.now }
     {
-        self.committed == self.quanta || self.world.kept() > kept
+        last <= self.committed || self.world.kept() > kept
     }
 
     // Whether any finding is kept.

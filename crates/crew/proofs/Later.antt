@@ -1,6 +1,6 @@
 -- A book that worker 1 worked on alone is of the same run, and has committed more.
 use Rattle.std.proofs.Common.{◌≡◌, ℕ, zero, suc, ◌+◌, ◌<◌, refl, ◌∙◌, ap, arith, inl, inr}
-use Rattle.commit_book.specs.Alone.{WorksOn, number_saved}
+use Rattle.commit_book.specs.Alone.{WorksOn, last_of, number_saved}
 use Rattle.commit_book.specs.Book.{BookFields, after_commits}
 
 record IsLater (k : ℕ) (old new : BookFields) : Type 0 where
@@ -20,9 +20,9 @@ pub record IsWorked (old new : BookFields) : Type 0 where
   pub more : old.committed < old.quanta → old.committed < new.committed
 
 -- it does not pause before it begins
-some_done : (old new : BookFields) (t u : ℕ) → WorksOn (number_saved old) old new t u → old.committed < old.quanta → old.committed < new.committed
+some_done : (old new : BookFields) (t u : ℕ) → WorksOn (number_saved old) (last_of old.quanta old) old new t u → old.committed < old.quanta → old.committed < new.committed
 some_done old new t u w left = elim w.pauses [
-  | inl all ↦ omega (arith, left, all, (commits-later w.done old).quanta, ap (λ (b : BookFields). b.quanta) w.book)
+  | inl all ↦ omega (arith, left, all)
   | inr saved ↦ go w.done w.book saved
 ]
   where
@@ -30,7 +30,7 @@ some_done old new t u w left = elim w.pauses [
     go zero is h = absurd (let n : ⊥ = omega (arith, h, ap number_saved is) in n)
     go (suc k) is h = omega (arith, ap (λ (b : BookFields). b.committed) is, (commits-later (suc k) old).committed)
 
-pub worked : (old new : BookFields) (t u : ℕ) → WorksOn (number_saved old) old new t u → IsWorked old new
+pub worked : (old new : BookFields) (t u : ℕ) → WorksOn (number_saved old) (last_of old.quanta old) old new t u → IsWorked old new
 worked old new t u w =
     let l = commits-later w.done old in
     record {

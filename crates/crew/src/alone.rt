@@ -1,7 +1,7 @@
 //! The part of a run that worker 1 does by itself.
 
 ghost use Rattle.std.specs.Prelude.{◌≡◌, ◌<◌, ◌≤◌, ℕ, IfOk, length, true};
-ghost use Rattle.commit_book.specs.Alone.{WorksOn, number_saved};
+ghost use Rattle.commit_book.specs.Alone.{WorksOn, last_of, number_saved};
 ghost use Rattle.crew.specs.Hand.{HasGroups, IsUnhalted, run_bank};
 ghost use Rattle.crew.specs.declared.runs.Ran.TheVariants.{Halted};
 ghost use Rattle.crew.specs.Ran.{HaltsAsIn, IfEnded, IfHalted};
@@ -10,6 +10,7 @@ use crate::hand::{Hand, Next};
 use crate::handing::hand_all;
 use crate::runs::Ran;
 use commit_book::Book;
+use mutation_streams::NoTape;
 use std::alloc::Global;
 use std::marker::Brand;
 use std::sync::ledger::{Blank, Ledger};
@@ -52,7 +53,7 @@ pub(crate) fn run_alone<H: Hand>(alloc: Global, book: Book, hand: &mut H) -> Ran
 // all groups before a quantum is run.)
 fn work_on<H: Hand>(alloc: Global, book: Book, hand: &H) -> Result<Book, OutOfMemory>
     requires groups { HasGroups book.setup book.committed (H.done hand.now) }
-    ensures works { IfOk result (λ b. (u : ℕ) × WorksOn (number_saved book) book b 0 u) }
+    ensures works { IfOk result (λ b. (u : ℕ) × WorksOn (number_saved book) (last_of book.quanta book) book b 0 u) }
     ensures few { IfOk result (λ b. b.committed ≤ b.quanta) }
 {
     let worked = counted_work::<Brand>(alloc, book, Blank::new(1))?;
@@ -65,10 +66,11 @@ fn counted_work<L: Ledger>(alloc: Global, book: Book, blank: Blank) -> Result<Bo
     requires name { blank.name ≡ L.name }
     requires parts { blank.parts ≡ L.parts }
     requires some { 0 < L.parts }
-    ensures { IfOk result (λ b. (u : ℕ) × WorksOn (number_saved book) book b 0 u) }
+    ensures { IfOk result (λ b. (u : ℕ) × WorksOn (number_saved book) (last_of book.quanta book) book b 0 u) }
 {
     let mut steps = Steps::<L>::start(blank);
-    let worked = book.work_on(alloc, &mut steps)?;
+    let most = book.quanta();
+    let worked = book.work_on(alloc, &mut NoTape, most, &mut steps)?;
     Ok(worked)
 }
 

@@ -23,7 +23,7 @@ quanta-init g c =
     let book : IsBook b c.in_ok-run.run' =
     subst (IsBook b) (sym c.in_ok-run.ensures) (subst (λ (x : BookFields). IsBook x i.world.world) c.self.view_is c.self.invariant.book) in
     record {
-      working = starts c.args.kept b (state_of b i.committed i.history) c.args.steps.now c.args.steps.now is refl;
+      working = starts c.args.kept c.args.last b (state_of b i.committed i.history) c.args.steps.now c.args.steps.now is refl;
       book = subst (λ (x : BookFields). IsBook x c.in_ok-run.run') (sym is) book;
     }
 
@@ -41,7 +41,7 @@ pub next_counted-requires-clause-more : goal.next_counted-requires-clause-more
 next_counted-requires-clause-more g c =
     let b : BookFields = c.args.self in
     let setup : IsSetup b.setup = subst (λ (x : BookFields). IsSetup x.setup) c.self.view_is (subst IsSetup c.deref.ensures c.is_setup.ensures) in
-    let more : c.quanta.committed < b.quanta = omega (arith, c.quanta-test.true, ap (λ (x : BookFields). x.quanta) c.self.view_is) in
+    let more : c.quanta.committed < b.quanta = omega (arith, c.quanta-test.true, c.requires.within) in
     (book-sound (state_of b c.quanta.committed c.quanta.history) c.quanta.run setup c.quanta.invariant.book more).few
 
 pub quanta-preserved : goal.quanta-preserved
@@ -51,21 +51,21 @@ quanta-preserved g c =
     let x : BookFields = state_of b l.committed l.history in
     let y : BookFields = state_of b (l.committed + 1) c.push.new.self in
     let k = l.invariant.book in
-    let more : l.committed < b.quanta = omega (arith, c.quanta-test.true, ap (λ (z : BookFields). z.quanta) c.self.view_is) in
+    let more : l.committed < b.quanta = omega (arith, c.quanta-test.true, c.requires.within) in
     let saved : c.kept.result ≡ length l.run.saved = c.kept.ensures in
-    let on : Pauses c.args.kept x → ⊥ = λ p. elim p [
-      | inl all ↦ omega (arith, all, more)
+    let on : Pauses c.args.kept c.args.last x → ⊥ = λ p. elim p [
+      | inl all ↦ omega (arith, all, c.quanta-test.true)
       | inr past ↦ omega (arith, past, c.if-kept.true, saved, ap (λ (w : World). length w.saved) k.world)
     ] in
     let none : b.stash ≡ replicate b.window None = elim c.requires.none [
-      | inl p ↦ absurd (not_at_first c.args.kept b x c.args.steps.now l.steps l.invariant.working on p)
+      | inl p ↦ absurd (not_at_first c.args.kept c.args.last b x c.args.steps.now l.steps l.invariant.working on p)
       | inr n ↦ n
     ] in
     let next = state-next b l.committed l.history l.run none k c.push.new.self
     (c.in_ok-push.ensures.ok ∙ (λ j. l.history ++ record { quantum = length l.history + 1; creature = c.first.ensures j; by = 1; how = how.Missing } ∷ [])) in
     let ticks = c.in_ok-next_counted.ensures.ticks ∙ ap (λ n. l.steps + n) (state-ticks b l.committed l.history l.run none k) in
     record {
-      working = goes_on c.args.kept b x y c.args.steps.now l.steps c.next_counted.new.steps l.invariant.working on next ticks;
+      working = goes_on c.args.kept c.args.last b x y c.args.steps.now l.steps c.next_counted.new.steps l.invariant.working on next ticks;
       book = state-is_book b l.committed l.history l.run none k y c.next_counted.new.self more next c.in_ok-next_counted.ensures.world;
     }
 
@@ -100,10 +100,9 @@ returns g c =
     let same : left ≡ x =
     (λ j. record v { committed = l.committed; handed = c.max.ensures j; history = l.history })
     ∙ ap (λ (y : BookFields). state_of y l.committed l.history) c.self.view_is in
-    let quanta : v.quanta ≡ b.quanta = ap (λ (y : BookFields). y.quanta) c.self.view_is in
-    let pauses : Pauses c.args.kept x = elim c.quanta-test.branch [
+    let pauses : Pauses c.args.kept c.args.last x = elim c.quanta-test.branch [
       | then-quanta-test+else-kept w ↦ inr (omega (arith, w.if-kept.false, w.kept.ensures, ap (λ (u : World). length u.saved) k.world))
-      | else-quanta-test w ↦ inl (omega (arith, w.quanta-test.false, quanta, k.committed))
+      | else-quanta-test w ↦ inl (omega (arith, w.quanta-test.false))
     ] in
-    subst (λ (y : BookFields). WorksOn c.args.kept b y c.args.steps.now l.steps) (sym same)
-    (pauses_here c.args.kept b x c.args.steps.now l.steps l.invariant.working pauses)
+    subst (λ (y : BookFields). WorksOn c.args.kept c.args.last b y c.args.steps.now l.steps) (sym same)
+    (pauses_here c.args.kept c.args.last b x c.args.steps.now l.steps l.invariant.working pauses)

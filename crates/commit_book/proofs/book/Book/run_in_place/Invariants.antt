@@ -6,7 +6,7 @@ use Rattle.commit_book.proofs.book.Book.run_in_place.Given as goal
 
 abbrev pub invariant-quanta : goal.invariant-quanta
 invariant-quanta g l = record {
-  working : IsWorking l.kept l.fn.self (state_of l.fn.self l.committed l.history) l.fn.steps l.steps;
+  working : IsWorking l.kept l.last l.fn.self (state_of l.fn.self l.committed l.history) l.fn.steps l.steps;
   book : IsBook (state_of l.fn.self l.committed l.history) l.run;
 }
 
