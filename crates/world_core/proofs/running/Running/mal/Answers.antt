@@ -20,8 +20,8 @@ take-requires c =
     let lies : c.args.block.at + c.args.block.size ≤ c.self.inside.settings.soup_size = can.1.2 in
     omega (arith, c.self.inside.settings.soup)
 
-pub take-2-requires-clause-free : goal.take-requires-clause-free
-take-2-requires-clause-free c p h =
+pub take-requires-2-clause-free : goal.take-requires-2-clause-free
+take-requires-2-clause-free c p h =
     let b = c.args.block in
     let n = c.self.inside.settings.soup_size in
     let can : CanHappen (the_view c.self.inside).world (event.Mal b.at b.size)
