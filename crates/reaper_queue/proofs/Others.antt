@@ -1,7 +1,7 @@
 -- The first creature of a list other than the caller.
-use Rattle.std.proofs.Common.{◌≡◌, ℕ, zero, suc, ◌<◌, List, [], ◌∷◌, arith, length, map, refl}
+use Rattle.std.proofs.Common.{◌≡◌, ℕ, zero, suc, List, [], ◌∷◌, arith, refl}
 use Rattle.std.proofs.lemmas.Bool.Decides.{nat_tests}
-use Rattle.std.specs.Prelude.{Some, None, Option, ◌==◌, find, not, option_map, position, slice_get, slice_index}
+use Rattle.std.specs.Prelude.{Some, ◌==◌, find, not, option_map, slice_get, slice_index}
 use Rattle.tierra_model.specs.Queue.{place_of_first_other}
 use Rattle.reaper_queue.specs.Reaper.{ids_of}
 
