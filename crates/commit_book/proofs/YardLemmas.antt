@@ -1,5 +1,5 @@
 -- The yard of a world, after an event.
-use Rattle.std.proofs.Common.{◌≡◌, ℕ, suc, ◌+◌, ◌∷◌, ◌^◌, ◌<◌, ◌≤◌, List, [], refl, sym, ◌∙◌, ap, subst, arith, length, inl, inr}
+use Rattle.std.proofs.Common.{◌≡◌, ℕ, suc, ◌∷◌, ◌^◌, ◌<◌, ◌≤◌, List, [], refl, sym, ◌∙◌, ap, subst, arith, length, inl, inr}
 use Rattle.std.specs.Prelude.{Option, None, Some, IsSome, if◌then◌else◌, map, ◌++◌, ◌==◌}
 use Rattle.std.proofs.lemmas.Bool.Decides.{leb_tells}
 use Rattle.tierra_model.specs.declared.creatures.Block.{Block}
