@@ -1,5 +1,5 @@
 -- The yard of a world, after an event.
-use Rattle.std.proofs.Common.{◌≡◌, ℕ, suc, ◌+◌, ◌∷◌, ◌^◌, ◌<◌, ◌≤◌, List, [], refl, sym, ◌∙◌, ap, subst, arith, length, inl, inr}
+use Rattle.std.proofs.Common.{◌≡◌, ℕ, suc, ◌∷◌, ◌^◌, ◌<◌, ◌≤◌, List, [], refl, sym, ◌∙◌, ap, subst, arith, length, inl, inr}
 use Rattle.std.specs.Prelude.{Option, None, Some, IsSome, if◌then◌else◌, map, ◌++◌, ◌==◌}
 use Rattle.std.proofs.lemmas.Bool.Decides.{leb_tells}
 use Rattle.tierra_model.specs.declared.creatures.Block.{Block}
@@ -55,15 +55,6 @@ yard-as w n r le =
 -- a record's standing alone counts
 shown-same : (c d : Creature) (standings : List Standing) → standing c ≡ standing d → with_standing c standings ≡ with_standing d standings
 shown-same c d standings e = ap (λ (s : Standing). map (λ x. if x.id == s.id then s else x) standings) e
-
-pub standing-after : (e : Event) (c d : Creature) → standing c ≡ standing d → standing (record_after e c) ≡ standing (record_after e d)
-standing-after (event.Write at value) c d h = h
-standing-after event.Err c d h = ap (λ (s : Standing). record s { errors = s.errors + 1 }) h
-standing-after event.Good c d h = h
-standing-after event.GiveUp c d h = ap (λ (s : Standing). record s { daughter = None }) h
-standing-after (event.Mal at size) c d h = ap (λ (s : Standing). record s { daughter = Some (record { at = at; size = size }) }) h
-standing-after (event.Reap place) c d h = h
-standing-after (event.Divide ran moved) c d h = ap (λ (s : Standing). record s { daughter = None }) h
 
 -- a yard after an event, with the record of which the standing alone is known
 after-same : (e : Event) (b : Option Block) (n : ℕ) (c d : Creature) (standings : List Standing) → standing c ≡ standing d

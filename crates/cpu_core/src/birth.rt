@@ -18,8 +18,7 @@ pub fn fail(creature: &mut Creature) -> Act
     ensures creature { creature.new ≡ creature_after Act.Erred creature.old }
     ensures act { result ≡ Act.Erred }
 {
-    creature.flag = 1;
-    creature.errors += 1;
+    creature.err();
     Act::Erred
 }
 
@@ -59,25 +58,13 @@ pub fn mal_done(creature: &mut Creature, got: Option<Block>)
     ensures none { IfNone got (creature.new ≡ record_after event.Err (without_daughter creature.old)) }
 {
     match got {
-        Some(block) => {
-            creature.daughter = Some(block);
-            creature.moved = 0;
-            creature.ax = block.at as i32;
-        }
+        Some(block) => creature.take(block),
         None => {
-            give_up(creature);
-            fail(creature);
+            if creature.daughter.is_some() {
+                creature.give_up();
+            }
+            creature.err();
         }
-    }
-}
-
-// Gives up a daughter block that is held.
-fn give_up(creature: &mut Creature)
-    ensures { creature.new ≡ without_daughter creature.old }
-{
-    if creature.daughter.is_some() {
-        creature.daughter = None;
-        creature.moved = 0;
     }
 }
 
@@ -86,8 +73,5 @@ pub fn divide_done(creature: &mut Creature)
     requires { creature.old.bred < COUNT_END }
     ensures { creature.new ≡ record_after (event.Divide creature.old.ran creature.old.moved) creature.old }
 {
-    creature.daughter = None;
-    creature.moved = 0;
-    creature.ran = 0;
-    creature.bred += 1;
+    creature.bear();
 }

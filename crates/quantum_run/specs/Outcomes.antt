@@ -11,9 +11,11 @@ use Rattle.tierra_model.specs.SceneRun.{run_in_scene}
 use Rattle.tierra_model.proofs.Each.{Each}
 use Rattle.quantum_run.specs.declared.outcome.Outcome.{Outcome}
 use Rattle.quantum_run.specs.OnScene.{IsCellOf}
+use Rattle.quantum_run.specs.Seen.{HasNoList}
 
--- the quantum of the scene leaves this outcome, and every cell that it read is in the soup
+-- the quantum of the scene leaves this outcome, in which no list is noted yet, and every cell that it read is in the soup
 pub record IsOutcome (scene : Scene) (o : Outcome) : Type 0 where
+  pub none : HasNoList o.reads.reads
   pub cells : o.reads.reads.cells ≡ (run_in_scene scene).cells
   pub events : o.events.items ≡ (run_in_scene scene).events
   pub after : o.after ≡ (run_in_scene scene).now.front

@@ -2,12 +2,10 @@
 
 ghost use Rattle.std.specs.Prelude.{◌≡◌, ◌+◌, ◌-◌, ◌<◌, ◌≤◌, ◌^◌, IfOk, length};
 ghost use Rattle.std.specs.Arc.{arc_value};
-ghost use Rattle.tierra_model.specs.Quantum as quantum;
 ghost use Rattle.tierra_model.specs.Scene.{Scene};
 ghost use Rattle.quantum_run.specs.Job.{OfSoundWorld};
 
 use crate::scratch::{Lists, Room, Sheet};
-use slicer_queue::slice_of;
 use soup_cells::Version;
 use std::alloc::Global;
 use std::marker::Model;
@@ -158,13 +156,6 @@ impl Job {
         ensures { result ≡ self.now.quanta + 1 }
     {
         self.quantum
-    }
-
-    /// How many instructions the creature runs in it.
-    pub fn slice(&self) -> u32
-        ensures { result ≡ quantum.slice_of self.now.front.own.size self.now.settings }
-    {
-        slice_of(self.sheet.before.own.size, &self.sheet.settings)
     }
 
     /// The creature expected at the front.

@@ -10,7 +10,8 @@ use crate::job::Job;
 use crate::outcome::Outcome;
 use crate::scratch::{Copies, Lists};
 use crate::standings::Standings;
-use crate::yard::first_other;
+use crate::yard::place_of_first_other;
+use cpu_core::{divide_done, mal_done};
 use mutation_streams::Draws;
 use quantum_core::Ground;
 use std::marker::Model;
@@ -177,7 +178,7 @@ impl<'a> Ground for OnScene<'a> {
     }
 
     fn victim(&mut self) -> Option<u32> {
-        first_other(self.yard.items(), self.front.id)
+        place_of_first_other(self.yard.items(), self.front.id)
     }
 
     fn ask_free(&mut self) {
@@ -207,8 +208,7 @@ impl<'a> Ground for OnScene<'a> {
     }
 
     fn err(&mut self) {
-        self.front.flag = 1;
-        self.front.errors += 1;
+        self.front.err();
         self.yard.show(&self.front);
         self.yard.move_up(&self.front);
         self.events.push_reserved(Event::Err);
@@ -222,8 +222,7 @@ impl<'a> Ground for OnScene<'a> {
     fn give_up(&mut self) -> Result<(), OutOfMemory> {
         let block = self.front.daughter.unwrap();
         self.free.give_back(block);
-        self.front.daughter = None;
-        self.front.moved = 0;
+        self.front.give_up();
         self.cells.set_daughter(None);
         self.yard.show(&self.front);
         self.events.push_reserved(Event::GiveUp);
@@ -232,7 +231,7 @@ impl<'a> Ground for OnScene<'a> {
 
     fn take(&mut self, block: Block) -> Result<(), OutOfMemory> {
         self.free.take(block);
-        take_up(&mut self.front, block);
+        mal_done(&mut self.front, Some(block));
         self.cells.set_daughter(Some(block));
         self.yard.show(&self.front);
         self.events.push_reserved(Event::Mal {
@@ -262,10 +261,7 @@ impl<'a> Ground for OnScene<'a> {
             ran: self.front.ran,
             moved: self.front.moved,
         });
-        self.front.daughter = None;
-        self.front.moved = 0;
-        self.front.ran = 0;
-        self.front.bred += 1;
+        divide_done(&mut self.front);
         self.cells.set_daughter(None);
         self.yard.show(&self.front);
         Ok(())
@@ -315,19 +311,6 @@ fn give_back_daughter(free: &mut FreeCells, daughter: Option<Block>)
     if let Some(block) = daughter {
         free.give_back(block);
     }
-}
-
-ghost use Rattle.tierra_model.specs.declared.events.Event.TheVariants as event;
-ghost use Rattle.tierra_model.specs.Events.{record_after};
-
-// Makes the block the daughter block.
-fn take_up(front: &mut Creature, block: Block)
-    requires { block.at < 2 ^ 31 }
-    ensures { front.new ≡ record_after (event.Mal block.at block.size) front.old }
-{
-    front.daughter = Some(block);
-    front.moved = 0;
-    front.ax = block.at as i32;
 }
 
 // Appends the event of a write or an error; an error also moves the creature up in the yard.

@@ -2,9 +2,9 @@
 
 ghost use Rattle.std.specs.Prelude.{◌≡◌, ◌<◌, ◌^◌, length};
 ghost use Rattle.std.specs.Arc.{arc_value};
-ghost use Rattle.tierra_model.specs.Reads.{some_if};
 ghost use Rattle.quantum_run.specs.Finding.{Kept};
 ghost use Rattle.quantum_run.specs.Outcomes.{finding_by};
+ghost use Rattle.quantum_run.specs.Seen.{HasNoList};
 
 use crate::finding::Finding;
 use crate::scratch::Sheet;
@@ -34,27 +34,23 @@ impl Outcome {
     ) -> Finding
         requires free { length (arc_value free) < 2 ^ 32 }
         requires yard { length (arc_value yard) < 2 ^ 32 }
+        requires none { HasNoList self.reads.reads }
         requires kept { Kept (finding_by sheet.value.settings quantum sheet.value.before (arc_value free)
             (arc_value yard) self) }
         ensures { result
             ≡ finding_by sheet.value.settings quantum sheet.value.before (arc_value free) (arc_value yard) self }
     {
         let mut reads = self.reads;
-        reads.note_lists(
-            some_if(self.free_noted, free),
-            some_if(self.yard_noted, yard),
-        );
+        if self.free_noted {
+            reads.note_free(free);
+        }
+        if self.yard_noted {
+            reads.note_yard(yard);
+        }
         let mut sheet = sheet;
         sheet.after = self.after;
         sheet.reads = reads;
         sheet.events = EventList { items: self.events };
         Finding::of(quantum, sheet)
     }
-}
-
-// The value, if `is` says so.
-fn some_if<T: Drop>(is: bool, value: T) -> Option<T>
-    ensures { result ≡ some_if is value }
-{
-    if is { Some(value) } else { None }
 }

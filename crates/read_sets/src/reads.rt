@@ -99,19 +99,6 @@ impl Reads {
         self.yard = Some(yard);
     }
 
-    /// Sets which of the two lists were read: those that are given.
-    pub fn note_lists(&mut self, free: Option<Arc<FreeList>>, yard: Option<Arc<Yard>>)
-        requires free { IfSome free (λ a. length (arc_value a) < 2 ^ 32) }
-        requires yard { IfSome yard (λ a. length (arc_value a) < 2 ^ 32) }
-        ensures cells { self.new.reads.cells ≡ self.old.reads.cells }
-        ensures free { self.new.reads.free ≡ option_map (λ a. arc_value a) free }
-        ensures yard { self.new.reads.yard ≡ option_map (λ a. arc_value a) yard }
-        ensures room { self.new.spare ≡ self.old.spare }
-    {
-        self.free = free;
-        self.yard = yard;
-    }
-
     /// Makes room for this many more cells. What was read stays.
     pub fn reserve(&mut self, more: u32) -> Result<(), OutOfMemory>
         requires { length self.old.reads.cells + more < 2 ^ 32 }

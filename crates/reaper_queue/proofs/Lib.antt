@@ -3,3 +3,4 @@ mod Moves
 mod Once
 mod Found
 mod Changes
+pub mod Others

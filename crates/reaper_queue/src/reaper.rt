@@ -4,7 +4,7 @@ ghost use Rattle.std.specs.Prelude.{◌≡◌, ◌==◌, ◌+◌, ◌^◌, ◌<�
 ghost use Rattle.std.specs.VecDeque.{deque_len, deque_capacity};
 ghost use Rattle.tierra_model.specs.declared.limits.TheConstants.{COUNT_END};
 ghost use Rattle.tierra_model.specs.Counting.{times_in};
-ghost use Rattle.tierra_model.specs.Queue.{error_move, good_move};
+ghost use Rattle.tierra_model.specs.Queue.{error_move, good_move, place_of_first_other};
 ghost use Rattle.reaper_queue.specs.Reaper.{ids_of, is_of, errors_of, errors_in, with_error};
 ghost use Rattle.reaper_queue.specs.Standing.{StandsAt};
 
@@ -145,10 +145,20 @@ impl Reaper {
     pub fn first_other(&self, id: u64) -> Option<u64>
         ensures { result ≡ find (λ x. not (x == id)) (ids_of self.now.entries) }
     {
-        self.entries
-            .iter()
-            .map(|entry| entry.0)
-            .find(|other| *other != id)
+        match self.place_of_first_other(id) {
+            Some(place) => Some(self.at(place).0),
+            None => None,
+        }
+    }
+
+    /// The place of the topmost creature that is not this one.
+    pub fn place_of_first_other(&self, id: u64) -> Option<u32>
+        ensures { result ≡ place_of_first_other id (ids_of self.now.entries) }
+    {
+        match place_of_other(&self.entries, id) {
+            Some(place) => Some(place as u32),
+            None => None,
+        }
     }
 
     /// Another queue of the same creatures.
@@ -194,6 +204,13 @@ fn place_of(entries: &VecDeque<(u64, u64)>, id: u64) -> Option<usize>
     ensures { result ≡ position (is_of id) entries.now.items }
 {
     entries.iter().position(|entry| entry.0 == id)
+}
+
+// Where a walk from the top finds another creature.
+fn place_of_other(entries: &VecDeque<(u64, u64)>, id: u64) -> Option<usize>
+    ensures { result ≡ position (λ x. not (x.0 == id)) entries.now.items }
+{
+    entries.iter().position(|entry| entry.0 != id)
 }
 
 // The creature changes places with the one above it, unless it is at the top or the one above has more errors.

@@ -1,8 +1,8 @@
 -- A quantum on any machine: who is reaped, when there is room, and where the background flips.
-use Rattle.std.proofs.Common.{◌≡◌, ℕ, zero, suc, ◌+◌, ◌%◌, ◌<◌, ◌≤◌, Bool, true, false, List, [], ◌∷◌, refl, ap, subst, arith, inl, inr, ◌≢◌, length}
-use Rattle.std.specs.Prelude.{Some, None, Option, option_map, slice_index}
+use Rattle.std.proofs.Common.{◌≡◌, ℕ, zero, suc, ◌+◌, ◌%◌, ◌<◌, ◌≤◌, Bool, true, false, List, [], ◌∷◌, refl, ap, subst, arith, inl, inr, ◌≢◌, length, map}
+use Rattle.std.specs.Prelude.{Some, None, Option, ◌==◌, not, option_map, position, slice_index}
 use Rattle.std.proofs.lemmas.Bool.{and_parts, leb-true, ltb-true}
-use Rattle.std.proofs.lemmas.Bool.Decides.{eqb_tells}
+use Rattle.std.proofs.lemmas.Bool.Decides.{eqb_tells, nat_tests}
 use Rattle.tierra_model.specs.declared.parameters.Settings.{Settings}
 use Rattle.tierra_model.specs.declared.events.Event.TheVariants as event
 use Rattle.tierra_model.specs.Draw.{is_due, back_flip}
@@ -36,6 +36,12 @@ place_of_first_other-is c (x ∷ xs) k e = elim (eqb_tells x c) [
   | inr a ↦ (let z : Some 0 ≡ Some k = rw (a.0) at e in let k0 : 0 ≡ k = cc in
       (omega (arith, k0), subst (λ n. slice_index (x ∷ xs) n ≢ c) k0 a.1))
 ]
+
+-- it stands where the first element of another number is
+pub position-of_other : {X : Type 0} (f : X → ℕ) (c : ℕ) (xs : List X)
+    → position (λ x. not (f x == c)) xs ≡ place_of_first_other c (map f xs)
+position-of_other f c [] = refl
+position-of_other f c (x ∷ xs) = grind (arith, nat_tests, position-of_other f c xs)
 
 -- ---- room
 

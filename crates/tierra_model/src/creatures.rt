@@ -1,7 +1,10 @@
 //! Creatures and their blocks.
 
-ghost use Rattle.std.specs.Prelude.{◌≡◌};
+ghost use Rattle.std.specs.Prelude.{◌≡◌, ◌<◌, ◌^◌};
+ghost use Rattle.tierra_model.specs.declared.limits.TheConstants.{COUNT_END};
+ghost use Rattle.tierra_model.specs.declared.events.Event.TheVariants as event;
 ghost use Rattle.tierra_model.specs.Blocks.{is_in};
+ghost use Rattle.tierra_model.specs.Events.{record_after};
 
 /// A row of cells, from the cell `at` on.
 #[derive(Clone, Copy, Drop, PartialEq, Eq, Debug)]
@@ -45,6 +48,47 @@ pub struct Creature {
     pub ran: u64,
     /// How many daughters it had.
     pub bred: u64,
+}
+
+// What the events of its own quantum do to its record.
+impl Creature {
+    /// It errs.
+    pub fn err(&mut self)
+        requires { self.old.errors < COUNT_END }
+        ensures { self.new ≡ record_after event.Err self.old }
+    {
+        self.flag = 1;
+        self.errors += 1;
+    }
+
+    /// It gives up its daughter block.
+    pub fn give_up(&mut self)
+        ensures { self.new ≡ record_after event.GiveUp self.old }
+    {
+        self.daughter = None;
+        self.moved = 0;
+    }
+
+    /// It takes a daughter block.
+    pub fn take(&mut self, block: Block)
+        requires { block.at < 2 ^ 31 }
+        ensures { self.new ≡ record_after (event.Mal block.at block.size) self.old }
+    {
+        self.daughter = Some(block);
+        self.moved = 0;
+        self.ax = block.at as i32;
+    }
+
+    /// Its daughter is born.
+    pub fn bear(&mut self)
+        requires { self.old.bred < COUNT_END }
+        ensures { self.new ≡ record_after (event.Divide self.old.ran self.old.moved) self.old }
+    {
+        self.daughter = None;
+        self.moved = 0;
+        self.ran = 0;
+        self.bred += 1;
+    }
 }
 
 /// What a daughter cost her mother: the instructions that she ran and the cells that she copied.

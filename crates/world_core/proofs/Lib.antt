@@ -3,11 +3,10 @@ pub mod Ownership
 pub mod Tying
 pub mod Within
 pub mod EventWorlds
-pub mod FirstOther
+pub mod RoomFor
 pub mod Numbered
 pub mod Cells
 pub mod Starting
-pub mod Registers
 pub mod Replaying
 pub mod Preparing
 pub mod NothingHappens

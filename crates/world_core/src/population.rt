@@ -146,18 +146,10 @@ impl Population {
     }
 
     /// The first place in the reaper queue that is not the creature's.
-    pub(crate) fn first_other(&self, id: u64) -> Option<u32>
-        requires { times_in self.now.reaper id ≤ 1 }
+    pub(crate) fn place_of_first_other(&self, id: u64) -> Option<u32>
         ensures { result ≡ place_of_first_other id self.now.reaper }
     {
-        let len = self.reaper.len();
-        if len > 0 && self.reaper.at(0).0 != id {
-            Some(0)
-        } else if len > 1 {
-            Some(1)
-        } else {
-            None
-        }
+        self.reaper.place_of_first_other(id)
     }
 
     /// Replaces the record of a creature by one with the same errors.

@@ -343,7 +343,8 @@ impl Running {
         requires { IsRunning self.now.world }
         ensures { result ≡ place_of_first_other (front self.now.world).id self.now.world.reaper }
     {
-        self.population.first_other(self.population.front().id)
+        self.population
+            .place_of_first_other(self.population.front().id)
     }
 
     /// How many creatures live, all of whom are in the reaper queue.
@@ -435,8 +436,7 @@ impl Running {
         ensures blocks { self.new.blocks ≡ self.old.blocks }
     {
         let mut creature = *self.population.front();
-        creature.flag = 1;
-        creature.errors += 1;
+        creature.err();
         self.population.error(creature);
     }
 
@@ -464,8 +464,7 @@ impl Running {
     {
         let mut creature = *self.population.front();
         let block = creature.daughter.unwrap();
-        creature.daughter = None;
-        creature.moved = 0;
+        creature.give_up();
         self.blocks.give_back(block);
         self.population.put(creature);
     }
@@ -481,9 +480,7 @@ impl Running {
         ensures blocks { self.old.blocks ≤ self.new.blocks + 1 }
     {
         let mut creature = *self.population.front();
-        creature.daughter = Some(block);
-        creature.moved = 0;
-        creature.ax = block.at as i32;
+        creature.take(block);
         self.blocks.take(block);
         self.population.put(creature);
     }
@@ -529,10 +526,7 @@ impl Running {
         self.population
             .enter(newborn(self.next_birth, block, genotype));
         self.census.born(genotype);
-        mother.daughter = None;
-        mother.moved = 0;
-        mother.ran = 0;
-        mother.bred += 1;
+        mother.bear();
         self.population.put(mother);
         self.births += 1;
         self.next_birth += 1;

@@ -8,7 +8,7 @@ use Rattle.tierra_model.specs.declared.events.Event.TheVariants as event
 use Rattle.tierra_model.specs.declared.lists.Yard.{Yard}
 use Rattle.tierra_model.specs.Replay.{after_events}
 use Rattle.tierra_model.specs.Yard.{yard}
-use Rattle.commit_book.proofs.ShownLemmas.{Followed, followed-all, followed-next, followed-none, followed-small, some-shared}
+use Rattle.commit_book.proofs.ShownLemmas.{Followed, followed-all, followed-inside, followed-next, followed-none, followed-small, some-shared}
 use Rattle.commit_book.proofs.shown.followed_yard.Goals as goal
 
 pub loop-event-init : goal.loop-event-init
@@ -21,15 +21,27 @@ loop-event-init c =
 
 pub shown_after-front-requires : goal.shown_after-front-requires
 shown_after-front-requires c =
+    let w = c.args.world.now.world in
     let es = c.args.events.now in
     let i = c.loop-event.event-index in
-    (followed-small c.args.world.now.world es i (drop i es) c.loop-event.front c.loop-event.number c.loop-event.items.items c.loop-event.invariant).0
+    let e : Event = get_or es i (event.Write 0 0) in
+    let left = drop (i + 1) es in
+    let next : suc i ≡ i + 1 = omega arith in
+    let split : drop i es ≡ e ∷ left = drop-cons es i (event.Write 0 0) (omega arith) ∙ ap (λ (k : ℕ). e ∷ drop k es) next in
+    let before : Followed w es i (e ∷ left) c.loop-event.front c.loop-event.number c.loop-event.items.items =
+    subst (λ (l : List Event). Followed w es i l c.loop-event.front c.loop-event.number c.loop-event.items.items) split c.loop-event.invariant in
+    let small = followed-small w es i (e ∷ left) c.loop-event.front c.loop-event.number c.loop-event.items.items before in
+    record {
+      errors = small.0;
+      bred = small.1;
+      inside = followed-inside w es i e left c.loop-event.front c.loop-event.number c.loop-event.items.items before;
+    }
 
 pub number_after-number-requires : goal.number_after-number-requires
 number_after-number-requires c =
     let es = c.args.events.now in
     let i = c.loop-event.event-index in
-    (followed-small c.args.world.now.world es i (drop i es) c.loop-event.front c.loop-event.number c.loop-event.items.items c.loop-event.invariant).1
+    (followed-small c.args.world.now.world es i (drop i es) c.loop-event.front c.loop-event.number c.loop-event.items.items c.loop-event.invariant).2
 
 pub loop-event-preserved : goal.loop-event-preserved
 loop-event-preserved c =

@@ -35,6 +35,7 @@ invariant_of-self c =
     let set = c.set_mark.ensures in (
       ap length set ∙ length-set n.marks.items c.args.at v ∙ c.self.invariant.0 ∙ ap length (sym c.get-value.ensures.same),
       omega (arith, unknown-look v n.marks.items c.args.at (code_is v c.get-value.ensures.code) within unknown, c.self.invariant.1, ap unknown_in set, c.note.ensures.room),
+      (c.note.ensures.free ∙ c.self.invariant.2.0, c.note.ensures.yard ∙ c.self.invariant.2.1),
     )
 
 pub returns-clause-value : goal.returns-clause-value

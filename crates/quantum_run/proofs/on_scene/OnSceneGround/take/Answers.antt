@@ -35,23 +35,29 @@ take-requires-clause-free c = λ p here.
     let in_block = block_in b.at b.size p here in
     is_free (is_in_some i.free.free p) (fits.1 p in_block.0 in_block.1)
 
-pub take_up-requires : goal.take_up-requires
-take_up-requires c =
+pub mal_done-requires-clause-inside : goal.mal_done-requires-clause-inside
+mal_done-requires-clause-inside c = λ taken is.
     let i = c.self.inside in
     let x : SceneRun = run_from i.job.now i.front i.cells.now i.free.free i.yard.items i.cells.reads.cells i.free_noted i.yard_noted i.events.items i.newborns in
     let b : Block = c.args.block in
     let room : room_for i.job.now.settings (λ p. not (is_in_some i.free.free p)) b.size ≡ Some b.at =
     ap (λ (v : SceneFields). room_for v.run.start.settings (scene_machine.owned v.run) b.size) c.self.view_is ∙ c.requires.room in
     let fits = room_for_free i.job.now.settings (λ p. not (is_in_some i.free.free p)) b.size b.at room in
-    omega (arith, fits.0, i.job.now.settings.soup)
+    let same : b ≡ taken = cc in
+    omega (arith, ap (λ (x : Block). x.at) same, fits.0, i.job.now.settings.soup)
+
+pub mal_done-requires-clause-errors : goal.mal_done-requires-clause-errors
+mal_done-requires-clause-errors c =
+    let r = subst (λ (v : SceneFields). SceneReady v 1) (sym c.self.view_is) c.requires.ready in
+    omega (arith, r.front.errors)
 
 pub returns-clause-state : goal.returns-clause-state
 returns-clause-state c =
     let i = c.self.inside in
     let x : SceneRun = run_from i.job.now i.front i.cells.now i.free.free i.yard.items i.cells.reads.cells i.free_noted i.yard_noted i.events.items i.newborns in
     let b : Block = c.args.block in
-    let d : Creature = c.take_up.new.front in
-    let his : d ≡ record_after (event.Mal b.at b.size) i.front = c.take_up.ensures in
+    let d : Creature = c.mal_done.new.creature in
+    let his : d ≡ record_after (event.Mal b.at b.size) i.front = c.mal_done.ensures.taken in
     let q : CellsFields = record i.cells { daughter = Some b } in
     let r = subst (λ (v : SceneFields). SceneReady v 1) (sym c.self.view_is) c.requires.ready in
     let frees : c.take.new.self.free ≡ runs_of i.job.now.settings.soup_size (λ p. is_in_some i.free.free p && not (is_in b p)) =
@@ -65,8 +71,8 @@ returns-clause-ready c = λ n h.
     let i = c.self.inside in
     let x : SceneRun = run_from i.job.now i.front i.cells.now i.free.free i.yard.items i.cells.reads.cells i.free_noted i.yard_noted i.events.items i.newborns in
     let b : Block = c.args.block in
-    let d : Creature = c.take_up.new.front in
-    let his : d ≡ record_after (event.Mal b.at b.size) i.front = c.take_up.ensures in
+    let d : Creature = c.mal_done.new.creature in
+    let his : d ≡ record_after (event.Mal b.at b.size) i.front = c.mal_done.ensures.taken in
     let q : CellsFields = record i.cells { daughter = Some b } in
     let room : room_for i.job.now.settings (λ p. not (is_in_some i.free.free p)) b.size ≡ Some b.at =
     ap (λ (v : SceneFields). room_for v.run.start.settings (scene_machine.owned v.run) b.size) c.self.view_is ∙ c.requires.room in

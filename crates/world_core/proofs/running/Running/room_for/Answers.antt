@@ -5,7 +5,7 @@ use Rattle.std.specs.Prelude.{not}
 use Rattle.tierra_model.specs.FreeList.{is_in_some}
 use Rattle.tierra_model.specs.Room.{filled, first_fit, is_owned, room_for}
 use Rattle.block_alloc.proofs.Owned.{runs_of-tell}
-use Rattle.world_core.proofs.FirstOther.{room-gone, room-there}
+use Rattle.world_core.proofs.RoomFor.{room-gone, room-there}
 use Rattle.world_core.proofs.running.Running.room_for.Goals.{After-filled}
 use Rattle.world_core.proofs.running.Running.room_for.Goals as goal
 
