@@ -240,6 +240,9 @@ def soup_map(worlds, title, named=None, quantum=None, pixels=3, **_):
 
 def animation(worlds, title, out, named=None, pixels=3):
     """Writes the animation of the map."""
+    writer = "pillow" if out.suffix == ".gif" else "ffmpeg"
+    if not films.writers.is_available(writer):
+        raise Refused(f"{out} needs ffmpeg, which is not installed")
     figure, shown, text = framed(map_of(worlds[0], named, pixels), map_title(worlds[0], title), named)
 
     def draw(world):
@@ -247,7 +250,8 @@ def animation(worlds, title, out, named=None, pixels=3):
         text.set_text(map_title(world, title))
 
     film = films.FuncAnimation(figure, draw, frames=worlds, interval=200, cache_frame_data=False)
-    film.save(out, writer="pillow" if out.suffix == ".gif" else "ffmpeg", dpi=100)
+    film.save(out, writer=writer, dpi=100)
+    pyplot.close(figure)
 
 
 KINDS = {

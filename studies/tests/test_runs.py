@@ -229,6 +229,11 @@ def test_an_animation(told, tmp_path):
     assert Image.open(tmp_path / "out.gif").n_frames == 15
 
 
+def test_an_animation_without_ffmpeg(refused, monkeypatch, tmp_path):
+    monkeypatch.setenv("PATH", str(tmp_path))
+    assert refused("picture", "animation", HOLD, tmp_path / "out.mp4").endswith("needs ffmpeg, which is not installed")
+
+
 @pytest.mark.parametrize(
     "words, line",
     [
@@ -272,5 +277,5 @@ def test_inputs_that_are_no_text(refused, tmp_path):
 def test_the_page_names_every_package():
     """The line of docs/STUDIES.md installs what the tests install, but for pytest."""
     tested = re.search(r"packages='(.*?)'", (TOP / "studies/test").read_text())[1].split()
-    told = re.search(r"^\$ apt-get install (.*)$", (TOP / "docs/STUDIES.md").read_text(), re.M)[1].split()
+    told = re.search(r"^\$ apt-get install --no-install-recommends (.*)$", (TOP / "docs/STUDIES.md").read_text(), re.M)[1].split()
     assert set(tested) - {"python3-pytest"} == set(told)
