@@ -59,6 +59,7 @@ def test_names_of_tierra(theirs, ours):
 
 def test_a_header_is_dropped():
     assert listing.of_tie("genotype: 0002aaa\nCODE\n\ntrack 0:\n\nnop1 ; 01\nzero\n") == b"\x01\x04"
+    assert listing.of_tie("CODE\n\ntrack 0: prot\n          xwr\nnop1 ; 010 110 01   0 a comment\nzero\n") == b"\x01\x04"
 
 
 @pytest.mark.parametrize(
@@ -67,6 +68,7 @@ def test_a_header_is_dropped():
         ("nop1\nzoro", "line 2: unknown instruction zoro"),
         ("head\nCODE\nnop1\nzoro", "line 4: unknown instruction zoro"),
         ("CODE\ntrack 1:\nnop1", "line 2: a second track"),
+        ("CODE\nnop1\nxwr", "line 3: unknown instruction xwr"),
         ("; nothing", "no instructions"),
         (">a\nAB\n>a\nAB", "line 3: a comes twice"),
         (">a\nAb", "line 2: b stands for no instruction"),
@@ -202,11 +204,19 @@ def roles_file(tmp_path_factory):
     return path
 
 
+# What a text of each picture tells: a unit, or a row of its key.
+UNITS = {
+    "population": "births, deaths per 400 quanta", "sizes": "instructions", "abundance": "living creatures", "diversity": "Shannon (nats)",
+    "roles": "hyperparasite", "tree": "each below its parent", "map": "300 cells a line",
+}  # fmt: skip
+
+
 @pytest.mark.parametrize("kind", [kind for kind in picture.KINDS if kind != "animation"])
 def test_pictures(told, tmp_path, roles_file, kind):
     words = ["--soup", DATA / "mixed.toml", "--roles", roles_file]
     told("picture", kind, HOLD, tmp_path / "out.svg", *words)
-    assert "mixed.toml, seed 5" in (tmp_path / "out.svg").read_text()
+    shown = (tmp_path / "out.svg").read_text()
+    assert "mixed.toml, seed 5" in shown and UNITS[kind] in shown
     told("picture", kind, HOLD, tmp_path / "out.png", *words)
     assert Image.open(tmp_path / "out.png").size[0] > 500
 
