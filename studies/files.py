@@ -2,8 +2,8 @@
 
 The layouts are the tables of docs/FORMATS.md: "Both files"; "The genebank's bytes" for a genebank; "The file of checkpoints"
 and "A world's bytes" for a file of checkpoints. Numbers are unsigned, with the most significant byte first.
-A file is checked to its end before anything of it is given: what the program would refuse is refused here. Of the file of checkpoints
-the program asks only of the last frame whether it has a sound world; here each frame is asked, as far as the file alone can tell.
+A file is checked to its end before anything of it is given: what the program would refuse is refused here, as far as the file alone can
+tell. The program asks only of the last frame whether it has a sound world; here each frame is asked, of its genotypes when they are read.
 """
 import functools
 import hashlib
@@ -65,10 +65,11 @@ def code_at(data, at, size):
 
 
 class World:
-    """The world that a frame holds: "A world's bytes" of docs/FORMATS.md, part by part. The genotypes are read when first asked for."""
+    """The world that a frame holds: "A world's bytes" of docs/FORMATS.md, part by part. The genotypes are read when first asked for.
+    `what` says which frame it is, for a refusal."""
 
-    def __init__(self, state):
-        self.state = state
+    def __init__(self, state, what="frame"):
+        self.state, self.what = state, what
         size = number(state, 0, 4)
         self.cells = numpy.frombuffer(state, numpy.uint8, size, 4)
         at = 4 + size
@@ -93,7 +94,17 @@ class World:
 
     @functools.cached_property
     def parts(self):
-        """The genotypes and the saved genotypes, as two lists of rows."""
+        """The genotypes and the saved genotypes, as two lists of rows. They are refused where they are those of no world."""
+        try:
+            parts = self.read_parts()
+        except ValueError:
+            parts = None
+        if parts is None or not are_sound(*parts, self):
+            raise Refused(f"{self.what} is damaged")
+        return parts
+
+    def read_parts(self):
+        """The parts as they stand there, or ValueError where something else stands there."""
         state, at = self.state, self.genotypes_at
         count, at = number(state, at, 8), at + 8
         genotypes, savings, ranks = [], [], {}
@@ -165,10 +176,9 @@ def has_sound_creatures(world):
     return owned.max() == 1
 
 
-def has_sound_genotypes(world):
+def are_sound(genotypes, savings, world):
     """Whether the genotypes and the saved genotypes of a world are in the ranges of "A world's bytes". Only the settings could tell
     whether those are saved that `save_at` individuals had: here no other genotype had as many as one that is saved."""
-    genotypes, savings = world.parts
     limit, saved = 2**40 + 10000 * world.quanta, {row["genotype"] for row in savings}
     if len({row["code"] for row in genotypes}) < len(genotypes) or len(genotypes) >= world.next_id or len(saved) < len(savings):
         return False
@@ -254,15 +264,16 @@ def worlds_in(image, digest=None, what="tierra.hold"):
     if image[:12] != HOLD:
         raise Refused(f"{what} is not a checkpoint")
     check_setup(image, digest, what)
-    worlds = []
-    for place, (begin, end, _) in enumerate(list(parts_of(image, f"{what}: frame"))):
+    worlds, found = [], list(parts_of(image, f"{what}: frame"))
+    for place, (begin, end, _) in enumerate(found):
+        here, is_last = f"{what}: frame {place}", place + 1 == len(found)
         try:
-            worlds.append(World(memoryview(image)[begin:end]))
-            is_sound = has_sound_creatures(worlds[-1]) and has_sound_genotypes(worlds[-1])
+            worlds.append(World(memoryview(image)[begin:end], here))
+            is_sound = has_sound_creatures(worlds[-1]) and (not is_last or worlds[-1].parts is not None)
         except ValueError:
             is_sound = False
         if not is_sound:
-            raise Refused(f"{what}: frame {place} is damaged")
+            raise Refused(f"{here} is damaged")
     return worlds
 
 

@@ -108,7 +108,7 @@ def test_hostile_genebanks_are_refused_as_by_bank():
 
 def test_hostile_checkpoints():
     """Frames with right digests, whose state may be that of no world. What `hold` refuses is refused with its line; a frame before
-    the last one, which `hold` does not look into, is refused too."""
+    the last one, which `hold` does not look into, may be refused too."""
     base, digest = (DATA / "small.hold").read_bytes(), soup.digest(soup.read(DATA / "small.toml"))
     states = rules.states_in(base, 5)
     for number in range(1000):
@@ -151,6 +151,15 @@ def test_a_state_of_no_world_is_refused(place, value, what):
     assert not isinstance(verdict(files.worlds_in, frame_of(state)), str)
     state = state[:place] + value + state[place + len(value) :]
     assert verdict(files.worlds_in, frame_of(state)) == "tierra.hold: frame 0 is damaged"
+
+
+def test_an_earlier_state_of_no_world_is_refused_when_it_is_read():
+    states = list(rules.states_in((DATA / "small.hold").read_bytes(), 5))
+    wrong = states[0][:426] + b"\x20" + states[0][427:]
+    image = frame_of(wrong)[:-1] + frame_of(states[1])[44:]
+    worlds = files.worlds_in(image)
+    assert len(worlds[1].genotypes) == 2
+    assert verdict(lambda world: world.genotypes, worlds[0]) == "tierra.hold: frame 0 is damaged"
 
 
 def test_another_setup_is_refused():
