@@ -22,7 +22,7 @@ SETTINGS = {
     "save_at": 2, "back_rate": 0, "copy_rate": 0, "flaw_rate": 0, "seed": "0" * 64, "dist_every": 0, "dist_percent": 10,
 }  # fmt: skip
 MOST_BYTES = 1048576
-MOST_QUANTA = 4000000
+MOST_QUANTA, USUAL_EVERY = 4000000, 1000
 
 
 def code_of_listing(text, what="listing"):

@@ -165,6 +165,8 @@ def command_of(args):
         raise Refused(f"--quanta is from 1 to {soup.MOST_QUANTA:,}")
     if args.action == "run" and args.every is not None:
         raise Refused("--every goes with --action hold or curve")
+    if args.action == "hold" and (args.every or soup.USUAL_EVERY) > args.quanta:
+        raise Refused(f"--quanta {args.quanta} is below --every {args.every or soup.USUAL_EVERY}: the runs would keep no checkpoint")
     every = f" --every {args.every}" if args.every is not None else ""
     return f"{args.action} --quanta {args.quanta}{every}"
 
