@@ -123,6 +123,13 @@ def value_of(key, text):
     return int(text)
 
 
+def seed_text(number):
+    """The text of a seed that is given as a number."""
+    if not 0 <= number < 16**64:
+        raise Refused(f"seed {number} is not a number of at most 64 hexadecimal digits")
+    return f"{number:064x}"
+
+
 def setup_bytes(document):
     """The bytes of which the digest of a setup is made ("A setup's bytes" in docs/FORMATS.md)."""
     values = settings(document)

@@ -68,10 +68,8 @@ def asked_for(values, seeds):
         settings = dict(zip(values, chosen))
         parts = [f"{key}{str(value).lower()}" for key, value in settings.items()]
         if seed is not None:
-            settings["seed"] = f"{seed:064x}"
+            settings["seed"] = soup.seed_text(seed)
             parts.insert(0, f"seed{seed}")
-        if len(settings.get("seed", "")) > 64:
-            raise Refused(f"seed {seed} has more than 64 hexadecimal digits")
         name = "_".join(parts) or "run"
         if name in asked:
             raise Refused(f"{name} was asked for twice")

@@ -121,6 +121,11 @@ def test_soup_from_refuses(refused, put, line):
     assert line in refused("soup_from", "--like", SOUP, "--put", put)
 
 
+@pytest.mark.parametrize("words, line", [(["--seed", "-1"], "seed -1 is not"), (["--set", "copy_rate=9999999999"], "another kind or range")])
+def test_soup_from_refuses_settings(refused, words, line):
+    assert line in refused("soup_from", "--like", SOUP, "--put", f"{BANK}:0044aad@0", *words)
+
+
 def test_an_invasion(tmp_path, told, built):
     """A parasite of one run among hosts of another: the program takes the file, and the parasite has daughters there."""
     put = ["--put", f"{BANK}:0080aaa@0,400,800", "--put", f"{HOLD}:0044aaa@200,600"]

@@ -81,7 +81,7 @@ def test_comments_stay():
         (["--seeds", "5", "--every", "10"], "--every goes with"),
         (["--action", "hold"], "--quanta 5 is below --every 1000: the runs would keep no checkpoint"),
         (["--action", "hold", "--every", "6"], "would keep no checkpoint"),
-        (["--seeds", str(16**64)], "more than 64 hexadecimal digits"),
+        (["--seeds", str(16**64)], "not a number of at most 64 hexadecimal digits"),
     ],
 )
 def test_words_are_refused(refused, stand_in, tmp_path, words, line):
