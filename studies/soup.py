@@ -136,6 +136,9 @@ def setup_bytes(document):
     parts = []
     try:
         for key, value in values.items():
+            kind = type(SETTINGS[key])
+            if not isinstance(value, kind) or kind is int and isinstance(value, bool):
+                raise ValueError(f"{key} is no {kind.__name__}")
             if key == "seed":
                 parts.append(bytes.fromhex(value))
             elif not key.startswith("dist_"):

@@ -1,9 +1,11 @@
 """Genotypes out and in, soup files of genotypes, traces, relays and pictures."""
 import gzip
 import hashlib
+import os
 import re
 import subprocess
 import sys
+import tempfile
 
 import numpy
 import pytest
@@ -164,7 +166,21 @@ def test_trace_by_the_program(told, tmp_path, built):
     assert len(table) == 31 and 5 <= sum(row[-1] != "" for row in table[1:]) <= 15
 
 
-def test_trace_refuses(refused):
+def test_a_scratch_folder(monkeypatch, tmp_path):
+    """It is in memory where there is room, and goes when it is left."""
+    monkeypatch.setattr(program, "MEMORY", str(tmp_path))
+    with program.scratch(1) as room:
+        assert os.path.dirname(room) == str(tmp_path)
+    assert not os.path.exists(room)
+    for size, memory in ((10**18, tmp_path), (1, tmp_path / "none")):
+        monkeypatch.setattr(program, "MEMORY", str(memory))
+        with program.scratch(size) as room:
+            assert os.path.dirname(room) == tempfile.gettempdir()
+
+
+def test_trace_refuses(refused, stand_in, tmp_path):
+    (tmp_path / "soup.toml").write_text(SOUP.read_text().replace("soup_size = 60000", "soup_size = '60000'"))
+    assert "another kind or range" in refused("trace", tmp_path / "soup.toml")
     assert "from 1 to 100,000" in refused("trace", SOUP, "--quanta", 100001)
 
 

@@ -39,6 +39,12 @@ def test_digest_is_the_programs(name, file):
     assert soup.digest(soup.read(DATA / f"{name}.toml")) == files.setup_of(DATA / file)
 
 
+@pytest.mark.parametrize("row", ["soup_size = '60000'", "save_at = true", "slice_by_size = 1", "copy_rate = 5.0", "seed = 5", "save_at = -1"])
+def test_a_value_of_another_kind_has_no_digest(row):
+    with pytest.raises(Refused, match="another kind or range"):
+        soup.digest(soup.parse(row + "\n[[creature]]\nat = 0\ncode = 'zero'\n"))
+
+
 def test_listing_and_back():
     code = bytes(range(32))
     assert soup.code_of_listing(soup.listing_of_code(code)) == code
