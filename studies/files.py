@@ -2,7 +2,8 @@
 
 The layouts are the tables of docs/FORMATS.md: "Both files"; "The genebank's bytes" for a genebank; "The file of checkpoints"
 and "A world's bytes" for a file of checkpoints. Numbers are unsigned, with the most significant byte first.
-A file is checked to its end before anything of it is given: what the program would refuse is refused here.
+A file is checked to its end before anything of it is given: what the program would refuse is refused here, as far as the file alone can
+tell. The program asks only of the last frame whether it has a sound world; here each frame is asked, of its genotypes when they are read.
 """
 import functools
 import hashlib
@@ -17,6 +18,7 @@ import pandas
 from .refusal import Refused
 
 HEADER = 45  # the title in 12 bytes, the digest of the setup in 32, and the gate of the first part
+MOST_SIZE, MOST_RANK, MOST_QUANTA = 20000, 2**60, 4000000
 BANK, HOLD = b"Tierra bank1", b"Tierra hold1"
 REGISTERS = ["ax", "bx", "cx", "dx"]
 # The table of a creature in "A world's bytes".
@@ -45,17 +47,29 @@ def number(data, at, width):
 
 
 def efforts_at(data, at):
-    """The first and second effort as a dictionary; None stands where there was no such daughter."""
+    """The first and second effort as a dictionary; None stands where there was no such daughter. ValueError where cells were moved
+    by no instruction."""
     numbers = [number(data, at + 8 * k, 8) for k in range(4)]
+    if any(moved and not ran for ran, moved in zip(numbers[::2], numbers[1::2])):
+        raise ValueError("an effort without instructions")
     kept = [value if numbers[k - k % 2] else None for k, value in enumerate(numbers)]
     return dict(zip(EFFORTS, kept))
 
 
-class World:
-    """The world that a frame holds: "A world's bytes" of docs/FORMATS.md, part by part. The genotypes are read when first asked for."""
+def code_at(data, at, size):
+    """The code of so many instructions, or ValueError where there is none."""
+    code = bytes(data[at : at + size])
+    if not 1 <= size <= MOST_SIZE or len(code) < size or max(code) > 31:
+        raise ValueError("no code")
+    return code
 
-    def __init__(self, state):
-        self.state = state
+
+class World:
+    """The world that a frame holds: "A world's bytes" of docs/FORMATS.md, part by part. The genotypes are read when first asked for.
+    `what` says which frame it is, for a refusal."""
+
+    def __init__(self, state, what="frame"):
+        self.state, self.what = state, what
         size = number(state, 0, 4)
         self.cells = numpy.frombuffer(state, numpy.uint8, size, 4)
         at = 4 + size
@@ -80,13 +94,23 @@ class World:
 
     @functools.cached_property
     def parts(self):
-        """The genotypes and the saved genotypes, as two lists of rows, and where the state ends."""
+        """The genotypes and the saved genotypes, as two lists of rows. They are refused where they are those of no world."""
+        try:
+            parts = self.read_parts()
+        except ValueError:
+            parts = None
+        if parts is None or not are_sound(*parts, self):
+            raise Refused(f"{self.what} is damaged")
+        return parts
+
+    def read_parts(self):
+        """The parts as they stand there, or ValueError where something else stands there."""
         state, at = self.state, self.genotypes_at
         count, at = number(state, at, 8), at + 8
         genotypes, savings, ranks = [], [], {}
         for index in range(count):
             size = number(state, at, 4)
-            code, at = bytes(state[at + 4 : at + 4 + size]), at + 4 + size
+            code, at = code_at(state, at + 4, size), at + 4 + size
             parent, first, total = (number(state, at + 8 * k, 8) for k in range(3))
             rank = ranks.get(size, 0)
             ranks[size] = rank + 1
@@ -94,11 +118,13 @@ class World:
             genotypes.append(row | {"first_quantum": first, "total": total} | efforts_at(state, at + 24) | {"code": code})
             at += 56
         count, at = number(state, at, 8), at + 8
+        if at + 48 * count != len(state):
+            raise ValueError("the saved genotypes do not end where the frame ends")
         for _ in range(count):
             row = {"genotype": number(state, at, 8), "saved": number(state, at + 8, 8)}
             savings.append(row | efforts_at(state, at + 16))
             at += 48
-        return genotypes, savings, at
+        return genotypes, savings
 
     @functools.cached_property
     def genotypes(self):
@@ -126,6 +152,46 @@ class World:
         return owners
 
 
+def has_sound_creatures(world):
+    """Whether the cells, the counts, the living and the reaper queue of a world are in the ranges of "A world's bytes"."""
+    rows = {name: world.records[name].astype("uint64") for name in CREATURE.names if name != "stack"}
+    limit, size, ids = 2**40 + 10000 * world.quanta, len(world.cells), set(rows["id"].tolist())
+    ranges = {"id": (1, world.next_id - 1), "ip": (0, size - 1), "sp": (0, 9), "size": (1, MOST_SIZE), "daughter_size": (0, MOST_SIZE)}
+    ranges |= {"genotype": (0, number(world.state, world.genotypes_at, 8) - 1)}
+    ranges |= dict.fromkeys(("moved", "errors", "ran", "bred"), (0, limit))
+    if not (0 < len(ids) == len(world.records) and world.births < world.next_id <= limit and world.quanta <= MOST_QUANTA):
+        return False
+    if world.deaths + len(ids) + 1 != world.next_id or set(world.reaper.tolist()) != ids or world.cells.max() > 31:
+        return False
+    if any(rows[name].min() < least or rows[name].max() > most for name, (least, most) in ranges.items()):
+        return False
+    if (rows["daughter_at"][rows["daughter_size"] == 0] != 0).any():
+        return False
+    owned = numpy.zeros(size, "int64")
+    for ats, sizes in (("at", "size"), ("daughter_at", "daughter_size")):
+        for at, length in zip(rows[ats].tolist(), rows[sizes].tolist()):
+            if at + length > size:
+                return False
+            owned[at : at + length] += 1
+    return owned.max() == 1
+
+
+def are_sound(genotypes, savings, world):
+    """Whether the genotypes and the saved genotypes of a world are in the ranges of "A world's bytes". Only the settings could tell
+    whether those are saved that `save_at` individuals had: here no other genotype had as many as one that is saved."""
+    limit, saved = 2**40 + 10000 * world.quanta, {row["genotype"] for row in savings}
+    if len({row["code"] for row in genotypes}) < len(genotypes) or len(genotypes) >= world.next_id or len(saved) < len(savings):
+        return False
+    if any(row["total"] > limit or row["parent"] is not None and row["parent"] >= row["genotype"] for row in genotypes):
+        return False
+    times = [0, *(row["saved"] for row in savings), world.quanta]
+    if times != sorted(times) or not saved <= set(range(len(genotypes))):
+        return False
+    totals = [row["total"] for row in genotypes]
+    others = [total for index, total in enumerate(totals) if index not in saved]
+    return max(others, default=0) < min((totals[index] for index in saved), default=2**64)
+
+
 class Saved(NamedTuple):
     """A saved genotype of a genebank."""
 
@@ -149,19 +215,19 @@ def is_fresh(image, title):
     return len(image) < HEADER or image[0] == 0 or (image[:1] != title[:1] and image[1:12] == title[1:])
 
 
-def parts_of(image, top_bit):
+def parts_of(image, what, top_bit=False):
     """The parts behind open gates, each as the places of its content and whether its length has the top bit; their digests hold.
-    Gives the number of a damaged part instead."""
-    gate, parts = HEADER - 1, []
+    The first damaged part is refused: `what` says what it is."""
+    gate, count = HEADER - 1, 0
     while image[gate] == 1:
         length = number(image, gate + 1, 4)
         marked, length = (length >> 31 == 1, length & 0x7FFFFFFF) if top_bit else (False, length)
         begin, end = gate + 5, gate + 5 + length
         gate = end + 32
         if gate >= len(image) or hashlib.sha256(memoryview(image)[begin:end]).digest() != image[end:gate]:
-            return len(parts)
-        parts.append((begin, end, marked))
-    return parts
+            raise Refused(f"{what} {count} is damaged")
+        yield begin, end, marked
+        count += 1
 
 
 def check_setup(image, digest, what):
@@ -198,18 +264,16 @@ def worlds_in(image, digest=None, what="tierra.hold"):
     if image[:12] != HOLD:
         raise Refused(f"{what} is not a checkpoint")
     check_setup(image, digest, what)
-    parts = parts_of(image, top_bit=False)
-    if isinstance(parts, int):
-        raise Refused(f"{what}: frame {parts} is damaged")
-    worlds = []
-    for place, (begin, end, _) in enumerate(parts):
+    worlds, found = [], list(parts_of(image, f"{what}: frame"))
+    for place, (begin, end, _) in enumerate(found):
+        here, is_last = f"{what}: frame {place}", place + 1 == len(found)
         try:
-            worlds.append(World(memoryview(image)[begin:end]))
-            whole = place + 1 < len(parts) or worlds[-1].parts[2] == end - begin
+            worlds.append(World(memoryview(image)[begin:end], here))
+            is_sound = has_sound_creatures(worlds[-1]) and (not is_last or worlds[-1].parts is not None)
         except ValueError:
-            whole = False
-        if not whole:
-            raise Refused(f"{what}: frame {place} is damaged")
+            is_sound = False
+        if not is_sound:
+            raise Refused(f"{here} is damaged")
     return worlds
 
 
@@ -225,28 +289,27 @@ def saved_in(image, digest=None, what="tierra.bank"):
     if image[:12] != BANK:
         raise Refused(f"{what} is not a genebank")
     check_setup(image, digest, what)
-    parts = parts_of(image, top_bit=True)
-    if isinstance(parts, int):
-        raise Refused(f"{what}: group {parts} is damaged")
     saved = []
-    for place, (begin, end, form_two) in enumerate(parts):
-        group = group_in(image[begin:end], form_two)
-        if group is None:
-            raise Refused(f"{what}: group {place} is damaged")
-        saved += group
+    for place, (begin, end, form_two) in enumerate(parts_of(image, f"{what}: group", top_bit=True)):
+        try:
+            saved += group_in(image[begin:end], form_two)
+        except ValueError as fault:
+            raise Refused(f"{what}: group {place} is damaged") from fault
     return saved
 
 
 def group_in(payload, form_two):
-    """The saved genotypes of a group's payload, or None where it has other bytes than a group."""
+    """The saved genotypes of a group's payload, or ValueError where it has other bytes than a group."""
     quantum, count, at, saved = number(payload, 0, 8), number(payload, 8, 4), 12, []
     for _ in range(count):
         head = 24 + (32 if form_two else 0)
         size, rank, parent, parent_rank = (number(payload, at + place, width) for place, width in ((0, 4), (4, 8), (12, 4), (16, 8)))
         efforts = efforts_at(payload, at + 24) if form_two else dict.fromkeys(EFFORTS)
-        code = payload[at + head : at + head + size]
+        code = code_at(payload, at + head, size)
         at += head + size
-        if at > len(payload) or not code or max(code) > 31:
-            return None
+        if rank >= MOST_RANK or parent > MOST_SIZE or parent_rank >= (MOST_RANK if parent else 1):
+            raise ValueError("a name out of its range")
         saved.append(Saved(name_of(size, rank), size, quantum, name_of(parent, parent_rank) if parent else None, efforts, code))
-    return saved if saved and at == len(payload) else None
+    if not saved or at != len(payload):
+        raise ValueError("not the bytes of a group")
+    return saved

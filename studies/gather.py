@@ -55,6 +55,8 @@ def counts_of(folder):
         return printed.curve_in((folder / "curve.txt").read_text())
     if (folder / "tierra.hold").exists():
         worlds = files.read_hold(folder / "tierra.hold")
+        if not worlds:
+            raise Refused(f"{folder} holds no checkpoint")
         rows = [(world.quanta, len(world.records), world.births, world.deaths) for world in worlds]
     else:
         counts, _ = printed.report_in((folder / "run.txt").read_text())

@@ -6,7 +6,7 @@
 Of a .tie the header is dropped, up to the line `CODE` if there is one, and instructions get the names of docs/RULES.md. Known are the
 names of Tierra's releases in any case and with or without underscores: nop1, nop_1; not0, or1; subCAB, sub_ab; incA, incax, inc_a;
 pushA, pushax; movDC, movdc, mov_cd; movii, mov_iab; adro; and so on. What follows a semicolon is a comment. Any other word is refused
-with its line, and so is a second track. FASTA has the alphabet of `zuldokan genotypes`.
+with its line, and so is a second track; the heading `xwr` below `track 0: prot` is dropped. FASTA has the alphabet of `zuldokan genotypes`.
 """
 import re
 import sys
@@ -35,14 +35,16 @@ def of_tie(text):
     """The code of a .tie file's text."""
     lines = text.splitlines()
     heads = [number for number, line in enumerate(lines) if line.strip() == "CODE" or line.startswith("CODE ")]
-    code = bytearray()
+    code, words = bytearray(), []
     for number, line in enumerate(lines[heads[-1] + 1 if heads else 0 :], (heads[-1] + 2 if heads else 1)):
-        words = line.partition(";")[0]
-        if track := re.match(r"\s*track\s+(\d+):", words):
-            if track[1] != "0":
+        before, words = words, line.partition(";")[0].split()
+        if words[:1] == ["track"]:
+            if words[1:2] != ["0:"]:
                 raise Refused(f"line {number}: a second track")
             continue
-        for word in words.split():
+        if before[:1] == ["track"] and words == ["xwr"]:  # the heading of a column of permissions
+            continue
+        for word in words:
             name = SPELLINGS.get(word.lower().replace("_", ""))
             if name is None:
                 raise Refused(f"line {number}: unknown instruction {word}")

@@ -8,8 +8,8 @@
   abundance    the living over time, stacked in Muller order: each genotype beside its parent
   diversity    richness, and Shannon and Simpson on an axis of their own
   roles        living hosts, parasites and others over time, stacked; needs --roles
-  tree         the family tree of what lives at the end: a line from the first birth to the last checkpoint that a genotype lived at,
-               and one to its parent; up to 100 genotypes have their names
+  tree         the family tree of what lives at the end: a line from the first birth to the checkpoint from which on none lived, and
+               one to its parent; up to 100 genotypes have their names
   map          the soup at a checkpoint, a whole number of pixels a cell, line by line from the top left
   animation    the map of each checkpoint; the ending is .gif or .mp4 (which needs ffmpeg)
 
@@ -34,6 +34,7 @@ from .refusal import Refused
 
 COLOURS = {"host": "#0072B2", "hyperparasite": "#CC79A7", "self": "#56B4E9", "parasite": "#D55E00", "idle": "#999999"}
 OTHERS = {"daughter being copied": "#F0E442", "left by the dead": "#D0D0D0", "first cell of a creature": "#000000", "empty": "#FFFFFF"}
+UNSEEN = "not seen at a checkpoint"
 SERIES = ["#0072B2", "#E69F00", "#009E73", "#CC79A7", "#56B4E9", "#D55E00", "#F0E442", "#999999"]
 STYLE = {"font.size": 9, "axes.spines.top": False, "axes.spines.right": False, "svg.hashsalt": "zuldokan", "axes.axisbelow": True}
 WIDTH = 300  # cells of a line of the map
@@ -105,7 +106,7 @@ def population(worlds, title, **_):
     axis.plot(table.quantum / 1000, table.living, color=COLOURS["host"], label="living")
     axis.set_ylabel("living creatures")
     axis.set_ylim(0)
-    other = second_axis(axis, f"per {step_of(worlds)}")
+    other = second_axis(axis, f"births, deaths per {step_of(worlds)}")
     other.plot(table.quantum / 1000, flows.births, color="#009E73", linewidth=1, label="births")
     other.plot(table.quantum / 1000, flows.deaths, color="#E69F00", linewidth=1, linestyle="--", label="deaths")
     other.set_ylim(0)
@@ -116,8 +117,8 @@ def population(worlds, title, **_):
 def sizes(worlds, title, named=None, **_):
     genotypes = frames.genotypes(worlds[-1]).dropna(subset=["saved"])
     figure, axis = axes(f"Sizes of the saved genotypes: {title}")
-    kinds = genotypes.name.map(lambda name: (named or {}).get(name, "not seen at a checkpoint" if named else "saved genotype"))
-    for kind in [*roles.ROLES, "not seen at a checkpoint", "saved genotype"]:
+    kinds = genotypes.name.map(lambda name: (named or {}).get(name, UNSEEN if named else "saved genotype"))
+    for kind in [*roles.ROLES, UNSEEN, "saved genotype"]:
         some = genotypes[kinds == kind]
         if len(some):
             axis.scatter(some.saved.astype(float) / 1000, some["size"], s=10, color=COLOURS.get(kind, "#000000"), label=kind)
@@ -190,9 +191,10 @@ def tree(worlds, title, named=None, **_):
             end_of_line = (until / 1000, place[row.id])
             axis.annotate(row.taxon_label, end_of_line, xytext=(2, 0), textcoords="offset points", fontsize=5, va="center")
     axis.set_yticks([])
+    axis.set_ylabel("genotypes, each below its parent")
     axis.invert_yaxis()
-    used = {(named or {}).get(name) for name in table.taxon_label} & set(COLOURS)
-    key = [matplotlib.patches.Patch(color=COLOURS[role], label=role) for role in roles.ROLES if role in used]
+    used = {(named or {}).get(name, UNSEEN) for name in table.taxon_label} if named else set()
+    key = [matplotlib.patches.Patch(color=COLOURS.get(kind, "#000000"), label=kind) for kind in [*roles.ROLES, UNSEEN] if kind in used]
     if key:
         axis.legend(handles=key, loc="upper left", bbox_to_anchor=(1.05, 1), frameon=False)
     return figure
@@ -240,6 +242,9 @@ def soup_map(worlds, title, named=None, quantum=None, pixels=3, **_):
 
 def animation(worlds, title, out, named=None, pixels=3):
     """Writes the animation of the map."""
+    writer = "pillow" if out.suffix == ".gif" else "ffmpeg"
+    if not films.writers.is_available(writer):
+        raise Refused(f"{out} needs ffmpeg, which is not installed")
     figure, shown, text = framed(map_of(worlds[0], named, pixels), map_title(worlds[0], title), named)
 
     def draw(world):
@@ -247,7 +252,8 @@ def animation(worlds, title, out, named=None, pixels=3):
         text.set_text(map_title(world, title))
 
     film = films.FuncAnimation(figure, draw, frames=worlds, interval=200, cache_frame_data=False)
-    film.save(out, writer="pillow" if out.suffix == ".gif" else "ffmpeg", dpi=100)
+    film.save(out, writer=writer, dpi=100)
+    pyplot.close(figure)
 
 
 KINDS = {

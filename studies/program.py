@@ -3,11 +3,14 @@ script `tierra` of this repository says it has built."""
 import hashlib
 import os
 import pathlib
+import shutil
 import subprocess
+import tempfile
 
 from .refusal import Refused
 
 TOP = pathlib.Path(__file__).resolve().parent.parent
+MEMORY = "/dev/shm"
 
 
 def add_argument(parser):
@@ -40,6 +43,13 @@ def commit():
     except OSError:
         return None
     return said.stdout.strip() if said.returncode == 0 else None
+
+
+def scratch(size):
+    """A folder for files of so many bytes that nobody keeps. The program syncs what it writes, so the folder is in memory where there
+    is room for ten times as many."""
+    has_room = os.access(MEMORY, os.W_OK) and shutil.disk_usage(MEMORY).free > 10 * size
+    return tempfile.TemporaryDirectory(dir=MEMORY if has_room else None)
 
 
 def run(path, words, source="", folder=".", out=None):

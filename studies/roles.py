@@ -27,7 +27,6 @@ A checkpoint is one moment: a genotype that lives between two checkpoints is not
 """
 import pathlib
 import sys
-import tempfile
 
 import networkx
 import numpy
@@ -101,7 +100,7 @@ def seen_in(worlds):
 
 def is_alone_fertile(code, path, quanta=1000):
     """Whether a genotype has a daughter when it is alone, by `grow`, which has the settings and quanta of `probe`."""
-    with tempfile.TemporaryDirectory() as room:
+    with program.scratch(10**6) as room:
         counts, _ = printed.report_in(program.run(path, ["grow", "--quanta", quanta], soup.listing_of_code(code), room))
     return counts["births"] > 0
 

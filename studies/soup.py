@@ -22,7 +22,7 @@ SETTINGS = {
     "save_at": 2, "back_rate": 0, "copy_rate": 0, "flaw_rate": 0, "seed": "0" * 64, "dist_every": 0, "dist_percent": 10,
 }  # fmt: skip
 MOST_BYTES = 1048576
-MOST_QUANTA = 4000000
+MOST_QUANTA, USUAL_EVERY = 4000000, 1000
 
 
 def code_of_listing(text, what="listing"):
@@ -123,12 +123,22 @@ def value_of(key, text):
     return int(text)
 
 
+def seed_text(number):
+    """The text of a seed that is given as a number."""
+    if not 0 <= number < 16**64:
+        raise Refused(f"seed {number} is not a number of at most 64 hexadecimal digits")
+    return f"{number:064x}"
+
+
 def setup_bytes(document):
     """The bytes of which the digest of a setup is made ("A setup's bytes" in docs/FORMATS.md)."""
     values = settings(document)
     parts = []
     try:
         for key, value in values.items():
+            kind = type(SETTINGS[key])
+            if not isinstance(value, kind) or kind is int and isinstance(value, bool):
+                raise ValueError(f"{key} is no {kind.__name__}")
             if key == "seed":
                 parts.append(bytes.fromhex(value))
             elif not key.startswith("dist_"):

@@ -56,6 +56,7 @@ def made(document, placed):
     said = soup.plain(text)
     if soup.creatures(said) != [(at, code) for at, code, _ in placed] or soup.settings(said) != soup.settings(document):
         raise Refused("the soup file does not take these creatures")
+    soup.digest(said)  # which refuses a value of another kind
     return text
 
 
@@ -66,5 +67,5 @@ def run(args):
             raise Refused(f"--set {key}: one value was expected")
         document[key] = values[0]
     if args.seed is not None:
-        document["seed"] = f"{args.seed:064x}"
+        document["seed"] = soup.seed_text(args.seed)
     sys.stdout.write(made(document, [one for word in args.put for one in placed_by(word)]))

@@ -68,10 +68,8 @@ def asked_for(values, seeds):
         settings = dict(zip(values, chosen))
         parts = [f"{key}{str(value).lower()}" for key, value in settings.items()]
         if seed is not None:
-            settings["seed"] = f"{seed:064x}"
+            settings["seed"] = soup.seed_text(seed)
             parts.insert(0, f"seed{seed}")
-        if len(settings.get("seed", "")) > 64:
-            raise Refused(f"seed {seed} has more than 64 hexadecimal digits")
         name = "_".join(parts) or "run"
         if name in asked:
             raise Refused(f"{name} was asked for twice")
@@ -165,6 +163,8 @@ def command_of(args):
         raise Refused(f"--quanta is from 1 to {soup.MOST_QUANTA:,}")
     if args.action == "run" and args.every is not None:
         raise Refused("--every goes with --action hold or curve")
+    if args.action == "hold" and (args.every or soup.USUAL_EVERY) > args.quanta:
+        raise Refused(f"--quanta {args.quanta} is below --every {args.every or soup.USUAL_EVERY}: the runs would keep no checkpoint")
     every = f" --every {args.every}" if args.every is not None else ""
     return f"{args.action} --quanta {args.quanta}{every}"
 

@@ -9,7 +9,6 @@ A checkpoint has a byte for each cell: take a small soup for a long trace. At mo
 """
 import pathlib
 import sys
-import tempfile
 
 import numpy
 import pandas
@@ -67,8 +66,9 @@ def run(args):
         raise Refused(f"--quanta is from 1 to {MOST:,}")
     settings = {"slice_size": 1, "slice_by_size": False} | ({"soup_size": args.size} if args.size else {})
     text, path = sweep.changed(soup.read(args.soup), settings), program.find(args.program)
-    with tempfile.TemporaryDirectory() as room:
+    document = soup.plain(text)
+    digest = soup.digest(document)
+    with program.scratch(args.quanta * soup.settings(document)["soup_size"]) as room:
         program.run(path, ["hold", "--quanta", args.quanta, "--every", 1], text, room)
-        document = soup.plain(text)
-        table = trace(document, files.read_hold(pathlib.Path(room) / "tierra.hold", soup.digest(document)))
+        table = trace(document, files.read_hold(pathlib.Path(room) / "tierra.hold", digest))
     table.to_csv(sys.stdout, index=False)

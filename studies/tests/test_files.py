@@ -1,5 +1,7 @@
 """The reader of the program's files: against the program's own texts, and on damaged files."""
-import importlib.util
+import functools
+import hashlib
+import sys
 
 import pytest
 
@@ -8,9 +10,9 @@ from studies.refusal import Refused
 
 from .conftest import DATA, TOP
 
-SPECIFICATION = importlib.util.spec_from_file_location("hostile_rules", TOP / "benches/hostile_rules.py")
-rules = importlib.util.module_from_spec(SPECIFICATION)
-SPECIFICATION.loader.exec_module(rules)
+sys.path.append(str(TOP / "benches"))
+import hostile_rules as rules  # noqa: E402
+import hostile_shapes as shapes  # noqa: E402
 
 
 @pytest.mark.parametrize(
@@ -93,6 +95,71 @@ def test_damaged_genebanks_are_refused_as_by_bank():
     for other in damaged(image):
         said = verdict(files.saved_in, other)
         assert (said if isinstance(said, str) else None) == rules.bank_fault(other)
+
+
+def test_hostile_genebanks_are_refused_as_by_bank():
+    """Groups with right digests, whose numbers may be out of their ranges."""
+    base = (DATA / "small.bank").read_bytes()
+    for number in range(1000):
+        image = shapes.image(shapes.dice_for(1, number), base, shapes.group)
+        said = verdict(files.saved_in, image)
+        assert (said if isinstance(said, str) else None) == rules.bank_fault(image), number
+
+
+def test_hostile_checkpoints():
+    """Frames with right digests, whose state may be that of no world. What `hold` refuses is refused with its line; a frame before
+    the last one, which `hold` does not look into, may be refused too."""
+    base, digest = (DATA / "small.hold").read_bytes(), soup.digest(soup.read(DATA / "small.toml"))
+    states = rules.states_in(base, 5)
+    for number in range(1000):
+        image = shapes.image(shapes.dice_for(1, number), base, functools.partial(shapes.frame, states=list(states)))
+        said, wanted = verdict(files.worlds_in, image, digest), rules.held(image, digest, states)
+        said = said if isinstance(said, str) else said[-1].quanta if said else 0
+        assert said == wanted or wanted == "" or isinstance(wanted, int) and "frame" in said, number
+
+
+def frame_of(state):
+    """A file of checkpoints of one state, with its digest."""
+    return (DATA / "small.hold").read_bytes()[:44] + b"\x01" + len(state).to_bytes(4, "big") + state + hashlib.sha256(state).digest() + b"\x00"
+
+
+# Places in the state of small.hold after 15 quanta: 100 cells, two creatures, two genotypes and no saved one. `hold` refuses each.
+@pytest.mark.parametrize(
+    "place, value, what",
+    [
+        (50, b"\x20", "a cell"),
+        (104, b"\x00\x00\x00\x00\x00\x3d\x09\x01", "quanta"),
+        (127, b"\x02", "deaths"),
+        (139, b"\x00", "living"),
+        (147, b"\x03", "a birth number"),
+        (151, b"\x01", "overlapping blocks"),
+        (151, b"\x63", "a block past the last cell"),
+        (159, b"\x01", "a daughter block without cells"),
+        (191, b"\x64", "ip"),
+        (235, b"\x0a", "the stack's pointer"),
+        (252, b"\x02", "a creature's genotype"),
+        (413, b"\x02", "the reaper queue"),
+        (414, b"\x7f", "genotypes without end"),
+        (426, b"\x20", "an instruction"),
+        (435, b"\x01", "a parent"),
+        (467, b"\x01", "an effort without instructions"),
+        (549, b"\x7f", "saved genotypes without end"),
+    ],
+)
+def test_a_state_of_no_world_is_refused(place, value, what):
+    state = next(state for state, quantum in rules.states_in((DATA / "small.hold").read_bytes(), 5).items() if quantum == 15)
+    assert not isinstance(verdict(files.worlds_in, frame_of(state)), str)
+    state = state[:place] + value + state[place + len(value) :]
+    assert verdict(files.worlds_in, frame_of(state)) == "tierra.hold: frame 0 is damaged"
+
+
+def test_an_earlier_state_of_no_world_is_refused_when_it_is_read():
+    states = list(rules.states_in((DATA / "small.hold").read_bytes(), 5))
+    wrong = states[0][:426] + b"\x20" + states[0][427:]
+    image = frame_of(wrong)[:-1] + frame_of(states[1])[44:]
+    worlds = files.worlds_in(image)
+    assert len(worlds[1].genotypes) == 2
+    assert verdict(lambda world: world.genotypes, worlds[0]) == "tierra.hold: frame 0 is damaged"
 
 
 def test_another_setup_is_refused():

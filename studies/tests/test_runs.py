@@ -1,9 +1,11 @@
 """Genotypes out and in, soup files of genotypes, traces, relays and pictures."""
 import gzip
 import hashlib
+import os
 import re
 import subprocess
 import sys
+import tempfile
 
 import numpy
 import pytest
@@ -59,6 +61,7 @@ def test_names_of_tierra(theirs, ours):
 
 def test_a_header_is_dropped():
     assert listing.of_tie("genotype: 0002aaa\nCODE\n\ntrack 0:\n\nnop1 ; 01\nzero\n") == b"\x01\x04"
+    assert listing.of_tie("CODE\n\ntrack 0: prot\n          xwr\nnop1 ; 010 110 01   0 a comment\nzero\n") == b"\x01\x04"
 
 
 @pytest.mark.parametrize(
@@ -67,6 +70,7 @@ def test_a_header_is_dropped():
         ("nop1\nzoro", "line 2: unknown instruction zoro"),
         ("head\nCODE\nnop1\nzoro", "line 4: unknown instruction zoro"),
         ("CODE\ntrack 1:\nnop1", "line 2: a second track"),
+        ("CODE\nnop1\nxwr", "line 3: unknown instruction xwr"),
         ("; nothing", "no instructions"),
         (">a\nAB\n>a\nAB", "line 3: a comes twice"),
         (">a\nAb", "line 2: b stands for no instruction"),
@@ -119,6 +123,11 @@ def test_soup_from_refuses(refused, put, line):
     assert line in refused("soup_from", "--like", SOUP, "--put", put)
 
 
+@pytest.mark.parametrize("words, line", [(["--seed", "-1"], "seed -1 is not"), (["--set", "copy_rate=9999999999"], "another kind or range")])
+def test_soup_from_refuses_settings(refused, words, line):
+    assert line in refused("soup_from", "--like", SOUP, "--put", f"{BANK}:0044aad@0", *words)
+
+
 def test_an_invasion(tmp_path, told, built):
     """A parasite of one run among hosts of another: the program takes the file, and the parasite has daughters there."""
     put = ["--put", f"{BANK}:0080aaa@0,400,800", "--put", f"{HOLD}:0044aaa@200,600"]
@@ -157,7 +166,21 @@ def test_trace_by_the_program(told, tmp_path, built):
     assert len(table) == 31 and 5 <= sum(row[-1] != "" for row in table[1:]) <= 15
 
 
-def test_trace_refuses(refused):
+def test_a_scratch_folder(monkeypatch, tmp_path):
+    """It is in memory where there is room, and goes when it is left."""
+    monkeypatch.setattr(program, "MEMORY", str(tmp_path))
+    with program.scratch(1) as room:
+        assert os.path.dirname(room) == str(tmp_path)
+    assert not os.path.exists(room)
+    for size, memory in ((10**18, tmp_path), (1, tmp_path / "none")):
+        monkeypatch.setattr(program, "MEMORY", str(memory))
+        with program.scratch(size) as room:
+            assert os.path.dirname(room) == tempfile.gettempdir()
+
+
+def test_trace_refuses(refused, stand_in, tmp_path):
+    (tmp_path / "soup.toml").write_text(SOUP.read_text().replace("soup_size = 60000", "soup_size = '60000'"))
+    assert "another kind or range" in refused("trace", tmp_path / "soup.toml")
     assert "from 1 to 100,000" in refused("trace", SOUP, "--quanta", 100001)
 
 
@@ -202,11 +225,19 @@ def roles_file(tmp_path_factory):
     return path
 
 
+# What a text of each picture tells: a unit, or a row of its key.
+UNITS = {
+    "population": "births, deaths per 400 quanta", "sizes": "instructions", "abundance": "living creatures", "diversity": "Shannon (nats)",
+    "roles": "hyperparasite", "tree": "each below its parent", "map": "300 cells a line",
+}  # fmt: skip
+
+
 @pytest.mark.parametrize("kind", [kind for kind in picture.KINDS if kind != "animation"])
 def test_pictures(told, tmp_path, roles_file, kind):
     words = ["--soup", DATA / "mixed.toml", "--roles", roles_file]
     told("picture", kind, HOLD, tmp_path / "out.svg", *words)
-    assert "mixed.toml, seed 5" in (tmp_path / "out.svg").read_text()
+    shown = (tmp_path / "out.svg").read_text()
+    assert "mixed.toml, seed 5" in shown and UNITS[kind] in shown
     told("picture", kind, HOLD, tmp_path / "out.png", *words)
     assert Image.open(tmp_path / "out.png").size[0] > 500
 
@@ -227,6 +258,11 @@ def test_the_map_shows_every_cell():
 def test_an_animation(told, tmp_path):
     told("picture", "animation", HOLD, tmp_path / "out.gif", "--pixels", 1)
     assert Image.open(tmp_path / "out.gif").n_frames == 15
+
+
+def test_an_animation_without_ffmpeg(refused, monkeypatch, tmp_path):
+    monkeypatch.setenv("PATH", str(tmp_path))
+    assert refused("picture", "animation", HOLD, tmp_path / "out.mp4").endswith("needs ffmpeg, which is not installed")
 
 
 @pytest.mark.parametrize(
@@ -272,5 +308,5 @@ def test_inputs_that_are_no_text(refused, tmp_path):
 def test_the_page_names_every_package():
     """The line of docs/STUDIES.md installs what the tests install, but for pytest."""
     tested = re.search(r"packages='(.*?)'", (TOP / "studies/test").read_text())[1].split()
-    told = re.search(r"^\$ apt-get install (.*)$", (TOP / "docs/STUDIES.md").read_text(), re.M)[1].split()
+    told = re.search(r"^\$ apt-get install --no-install-recommends (.*)$", (TOP / "docs/STUDIES.md").read_text(), re.M)[1].split()
     assert set(tested) - {"python3-pytest"} == set(told)

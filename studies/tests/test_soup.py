@@ -1,5 +1,7 @@
 """Soup files and listings, against the tables of docs/RULES.md and docs/FORMATS.md."""
 import re
+import resource
+import subprocess
 import tomllib
 
 import pytest
@@ -37,6 +39,12 @@ def test_digest_is_the_programs(name, file):
     assert soup.digest(soup.read(DATA / f"{name}.toml")) == files.setup_of(DATA / file)
 
 
+@pytest.mark.parametrize("row", ["soup_size = '60000'", "save_at = true", "slice_by_size = 1", "copy_rate = 5.0", "seed = 5", "save_at = -1"])
+def test_a_value_of_another_kind_has_no_digest(row):
+    with pytest.raises(Refused, match="another kind or range"):
+        soup.digest(soup.parse(row + "\n[[creature]]\nat = 0\ncode = 'zero'\n"))
+
+
 def test_listing_and_back():
     code = bytes(range(32))
     assert soup.code_of_listing(soup.listing_of_code(code)) == code
@@ -56,3 +64,26 @@ def test_creatures_are_put_in(monkeypatch):
     monkeypatch.setattr(soup, "MOST_BYTES", len(text) - 1)
     with pytest.raises(Refused, match="the soup file would have"):
         soup.text_of(soup.parse(text))
+
+
+IS_DEEP = "soup file is not TOML (a key has more than 80 parts"
+DEEP = {
+    "80 parts": ("a" + ".b" * 79 + " = 1", "unknown key a"),
+    "80 parts in a heading": ("[[a" + ' . "b"' * 79 + "]]\na" + ".b" * 79 + " = 1", "unknown key a"),
+    "80 deep": ("a = " + "[" * 79 + "{b" + ".b" * 79 + " = 1}" + "]" * 79, "unknown key a"),
+    "81 deep": ("a = " + "[" * 80 + "{b = 1}" + "]" * 80, IS_DEEP),
+    "81 parts": ("a" + ".b" * 80 + " = 1", IS_DEEP),
+    "81 parts in a heading": ("[[a" + ".b" * 80 + "]]", IS_DEEP),
+    "100001 parts": ("a" + ".b" * 100000 + " = 1", IS_DEEP),
+    "points that part no key": ("a = [" + "1.5, " * 200 + "'" + "[." * 200 + "'] # don't" + ".b" * 200, "unknown key a"),
+}
+
+
+@pytest.mark.parametrize("name", DEEP)
+def test_check_soup_of_deep_files(tmp_path, name):
+    """The program's bounds on depth, within 100 MB. Python's reader would take 40 GB for a key of 100001 parts."""
+    text, said = DEEP[name]
+    (tmp_path / "deep.toml").write_text(text + "\n")
+    limit = lambda: resource.setrlimit(resource.RLIMIT_AS, (10**8, 10**8))  # noqa: E731
+    answer = subprocess.run([TOP / "examples/check_soup", "deep.toml"], cwd=tmp_path, capture_output=True, text=True, preexec_fn=limit)
+    assert answer.returncode == 2 and f": {said}" in answer.stdout

@@ -79,7 +79,9 @@ def test_comments_stay():
         (["--seeds", "5", "--one", "2"], "no run 2 among 1"),
         (["--seeds", "5", "--jobs", "0"], "--jobs is at least 1"),
         (["--seeds", "5", "--every", "10"], "--every goes with"),
-        (["--seeds", str(16**64)], "more than 64 hexadecimal digits"),
+        (["--action", "hold"], "--quanta 5 is below --every 1000: the runs would keep no checkpoint"),
+        (["--action", "hold", "--every", "6"], "would keep no checkpoint"),
+        (["--seeds", str(16**64)], "not a number of at most 64 hexadecimal digits"),
     ],
 )
 def test_words_are_refused(refused, stand_in, tmp_path, words, line):
@@ -201,6 +203,21 @@ def test_the_program_itself(tmp_path, told, built):
     assert (tmp_path / "sweep/seed5/tierra.bank").read_bytes() == (DATA / "mixed.bank").read_bytes()
     table = told("gather", "genotypes", tmp_path / "sweep/seed5")
     assert len(table.splitlines()) == 1 + (DATA / "mixed_bank.txt").read_text().count("saved")
+
+
+def test_counts_of_each_action(tmp_path, told, refused, built):
+    """Checkpoints, counts of a curve and the report's end say the same of the same quantum. A run without checkpoints is no empty table."""
+    tables = {}
+    for action, every in (("run", []), ("hold", ["--every", 1000]), ("curve", ["--every", 1000])):
+        told("sweep", PARASITES, "--quanta", 2000, "--seeds", "0-1", "--action", action, *every, "--into", tmp_path / action)
+        tables[action] = told("gather", "counts", *sorted((tmp_path / action).iterdir())).splitlines()
+    assert [line.split(",")[5] for line in tables["hold"][1:]] == ["1000", "2000", "1000", "2000"]
+    assert tables["hold"] == [line for line in tables["curve"] if ",1000,0," not in line]
+    assert tables["run"] == [tables["hold"][0], tables["hold"][2], tables["hold"][4]]
+    assert "has no genebank" in refused("gather", "genotypes", tmp_path / "hold/seed0")
+    kept = tmp_path / "hold/seed1/tierra.hold"
+    kept.write_bytes(kept.read_bytes()[:44] + bytes(1))
+    assert "holds no checkpoint" in refused("gather", "counts", *sorted((tmp_path / "hold").iterdir()))
 
 
 def test_seed_of_this_many_digits():
