@@ -223,15 +223,3 @@ complete-by words left file may_leave order bytes text reads disk tells (status.
     let same = same-order words h.0 order h.1 a in
     let here = subst (λ (o : Order). RefusesHoldOf o left file f) same h.2 in
     absurd (hold-refused (kind_of order) order bytes text left file f here.0 e t (c here.0) here.1.0 here.1.1 here.1.2)
-
--- what was told when a run's bank was refused
-pub told-when-refused : (words : List (List ℕ)) (left : Option (List ℕ)) (old new : DeskState) (t : Task) (s : RunStop) → IsTaskOf words left t
-    → IfRefused s (IsRefusedFor t old new)
-    → OnBankRefused (status_of s) (λ f. (setup : SetupFields) (n : ℕ) → AsksForRunOf words left setup n
-    → IfSome old.reads (λ image. IsToldAtRefusal (run_groups setup n) old.told new.told f))
-told-when-refused words left old new t (stop.Refused f) is h = λ setup n asked.
-    subst (λ (x : Task). IfSome old.reads (λ image. IsToldWhenRefused x old.told new.told f)) (run-asked words left t setup n is asked).1 h.told
-told-when-refused words left old new t stop.DiskFault is h = tt
-told-when-refused words left old new t stop.TellFault is h = tt
-told-when-refused words left old new t stop.OutOfMemory is h = tt
-told-when-refused words left old new t (stop.HoldRefused f) is h = tt
