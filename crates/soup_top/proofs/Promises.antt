@@ -1,10 +1,10 @@
 -- How the promises of a call are kept, by what its task did or where none was begun.
-use Rattle.std.proofs.Common.{◌≡◌, sym, subst, inl, inr, ℕ, ◌<◌, List, Option, Some}
+use Rattle.std.proofs.Common.{◌≡◌, ◌⊎◌, sym, subst, inl, inr, ℕ, ◌<◌, List, Option, Some}
 use Rattle.bank_journal.proofs.Times.{each_file, for_file}
 use Rattle.bank_recover.specs.declared.faults.BankFault.{BankFault}
 use Rattle.desk_io.specs.Desk.{Appended, DeskState, Elapses, IsLawful, IsNow, Untouched}
 use Rattle.soup_checkpoint.specs.declared.faults.HoldFault.{HoldFault}
-use Rattle.soup_hold.specs.Holding.{CanHold, IsEarly, RefusesHold}
+use Rattle.soup_hold.specs.Holding.{AppendedLess, CanHold, IsEarly, RefusesHold}
 use Rattle.tierra_model.specs.Setups.{SetupFields}
 use Rattle.soup_top.specs.declared.asking.Task.{Task}
 use Rattle.soup_top.specs.declared.asking.Task.TheVariants as task
@@ -12,8 +12,9 @@ use Rattle.soup_top.specs.declared.status.Status.{Status}
 use Rattle.soup_top.specs.declared.status.Status.TheVariants as status
 use Rattle.soup_top.specs.declared.stop.RunStop.{RunStop}
 use Rattle.soup_top.specs.declared.stop.RunStop.TheVariants as stop
-use Rattle.soup_top.specs.Answers.{AskingCause, Cause, GivesNothingToWrite, IsUnfinished, OnBankRefused, OnDone, OnHoldRefused, OnStopped}
-use Rattle.soup_top.specs.Calls.{Call, ComesToSameEnd, HasRightText, IsQuiet, AtEachMoment, KeepsLinesUp, LeavesTrueGenebank, OfFile, OfHolds, OfRuns, ReadsTheSame, HasItsCause, SparesRefusedFile, TellsNothingElse, TellsWhatIsAsked}
+use Rattle.soup_top.specs.Answers.{AskingCause, Cause, GivesNothingToWrite, OnBankRefused, OnDone, OnHoldRefused, OnStopped}
+use Rattle.soup_top.specs.Calls.{Call, ComesToSameEnd, HasRightText, IsQuiet, AtEachMoment, KeepsLinesUp, LeavesTrueGenebank, OfFile, OfHolds, OfRuns}
+use Rattle.soup_top.specs.Calls.{ReadsTheSame, HasItsCause, SparesRefusedFile, TellsAsked, TellsNothing, TellsNothingElse, TellsWhatIsAsked}
 use Rattle.soup_top.specs.Checkpoints.{HasTrueMoments, IsLeftAlone, IsTrueHold, Resumes}
 use Rattle.soup_top.specs.Ending.{HasMomentsFor, IsDoneFor, IsHoldRefusedFor, IsRefusedFor, IsStoppedFor}
 use Rattle.soup_top.specs.Genebank.{BeginsWith, DiskIsOfHistory, IsTrueMoment, KeepsUp, RefusesRun}
@@ -21,13 +22,13 @@ use Rattle.soup_top.specs.Keeping.{IsToldAtRefusal}
 use Rattle.soup_top.specs.Sources.{run_groups, run_text}
 use Rattle.soup_top.specs.Statuses.{status_of}
 use Rattle.soup_top.specs.Stops.{CountsStop, IfHoldRefused, IfRefused}
-use Rattle.soup_top.specs.Tasks.{IsTaskOf, IsToldFor, IsToldWhenRefused, OfRun, OfText, UnlessWriting}
+use Rattle.soup_top.specs.Tasks.{ForTextOf, IsTaskOf, IsToldWhenRefused, OfRun, OfText, UnlessWriting}
 use Rattle.soup_top.proofs.Causes.{asking-has-cause, complete-by, stop-has-cause}
 use Rattle.soup_top.proofs.Crashes.{all_are_true, all_in_step, now_is_true}
 use Rattle.soup_top.proofs.OneTask.{of-hold-asked, of-run-asked, run-asked, unless-writing-asked}
 use Rattle.soup_top.proofs.Resuming.{untold_is_held}
-use Rattle.soup_top.proofs.ToldTexts.{all-in-part, all-told, told-in-part}
-use Rattle.soup_top.proofs.Unfinished.{lacks-some, where_stopped}
+use Rattle.soup_top.proofs.ToldTexts.{all-is-some, asked-text, asked-text-or}
+use Rattle.soup_top.proofs.Unfinished.{by_status, still_unless, where_stopped}
 
 -- ---- what a status is not
 
@@ -140,7 +141,7 @@ module _ (c : Call) (law : IsLawful c.desk) (past : HasMoments c) where
         (λ f. OfRuns c (λ setup n. OfFile c (λ file. IsToldAtRefusal (run_groups setup n) c.desk.told c.desk_after.told f)))
         (λ f is. is.told) bank;
     hold_early = each_early c.status (IsLeftAlone c.desk c.desk_after)
-        ((c.desk_after.told ≡ c.desk.told) × OfFile c (λ file. ReadsTheSame c)) (λ alone. (alone.told, alone.reads)) hold;
+        (TellsNothing c × OfFile c (λ file. ReadsTheSame c)) (λ alone. (alone.told, alone.reads)) hold;
     hold_quiet = each_early c.status (IsLeftAlone c.desk c.desk_after) (OfFile c (λ file. IsQuiet c))
         (λ alone. quiet_of_file alone.quiet) hold;
     quiet_hold = λ setup n every asked f early.
@@ -176,7 +177,7 @@ module _ (c : Call) (t : Task) (is : IsTaskOf c.words c.source.left t) where
 
   -- ---- and done
 
-  run_told : (x : Task) → IsToldFor x c.desk.reads c.desk.told c.desk_after.told
+  run_told : (x : Task) → ForTextOf x c.desk.reads (λ text. Appended c.desk.told text c.desk_after.told)
       → OfRun x (λ setup n. Appended c.desk.told (run_text setup n) c.desk_after.told)
   run_told (task.Run setup n w) told = subst (λ (text : List ℕ). Appended c.desk.told text c.desk_after.told) told.1 told.2
   run_told x told = tt
@@ -267,7 +268,7 @@ done-comes-to-same-end {c} t ok is done law had = comes_to_same_end c law (task_
 pub done-tells-what-is-asked : {c : Call} (t : Task) → c.status ≡ status.Done → IsTaskOf c.words c.source.left t
     → IsDoneFor t c.desk c.desk_after → TellsWhatIsAsked c
 done-tells-what-is-asked {c} t ok is done = record {
-  done = at_done c.status ok _ (all-told c.words c.source.left c.desk.reads c.desk.told c.desk_after.told t is done.told);
+  done = at_done c.status ok _ (asked-text c.words c.source.left c.desk.reads _ t is done.told);
 }
 
 pub done-has-its-cause : {c : Call} → c.status ≡ status.Done → HasItsCause c
@@ -280,8 +281,8 @@ done-has-its-cause {c} ok = record {
 pub done-tells-nothing-else : {c : Call} (t : Task) → c.status ≡ status.Done → IsTaskOf c.words c.source.left t
     → IsDoneFor t c.desk c.desk_after → TellsNothingElse c
 done-tells-nothing-else {c} t ok is done = record {
-  prefix = all-in-part c.words c.source.left c.desk.reads c.desk.told c.desk_after.told
-      (all-told c.words c.source.left c.desk.reads c.desk.told c.desk_after.told t is done.told);
+  prefix = inr (asked-text c.words c.source.left c.desk.reads _ t is
+      (done.told.0, done.told.1, all-is-some c.desk.told c.desk_after.told done.told.0 done.told.2));
   unfinished = done_unstopped c.status ok _;
 }
 
@@ -322,10 +323,9 @@ stop-has-its-cause {c} t s stops is disk stopped counts =
 pub stop-tells-nothing-else : {c : Call} (t : Task) (s : RunStop) → c.status ≡ status_of s → IsTaskOf c.words c.source.left t
     → IsStoppedFor t c.desk c.desk_after s → TellsNothingElse c
 stop-tells-nothing-else {c} t s stops is stopped = record {
-  prefix = told-in-part c.words c.source.left c.desk.reads c.desk.told c.desk_after.told t is stopped.partly;
-  unfinished = subst
-      (λ (x : Status). OnStopped x (IsUnfinished c.words c.source.left c.desk.reads c.desk.told c.desk_after.told)) (sym stops)
-      (lacks-some c.words c.source.left c.desk.reads c.desk.told c.desk_after.told t s is stopped.unfinished);
+  prefix = asked-text-or c.words c.source.left c.desk.reads _ _ t is stopped.partly;
+  unfinished = subst (λ (x : Status). OnStopped x (TellsNothing c ⊎ TellsAsked c AppendedLess)) (sym stops)
+      (by_status s _ (still_unless s _ _ (asked-text-or c.words c.source.left c.desk.reads _ _ t is) stopped.unfinished));
 }
 
 pub stop-spares-refused-file : {c : Call} (t : Task) (s : RunStop) → c.status ≡ status_of s → IsTaskOf c.words c.source.left t

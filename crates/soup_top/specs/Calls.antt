@@ -2,22 +2,24 @@
 use Rattle.std.specs.Prelude.{◌≡◌, ◌<◌, ◌⊎◌, ◌+◌, ℕ, IfSome, List, Option, Some, String}
 use Rattle.std.specs.Global.{Global, Vec}
 use Rattle.bank_recover.specs.declared.faults.BankFault.{BankFault}
-use Rattle.desk_io.specs.Desk.{Appended, DeskState, HasNoFault, Untouched}
+use Rattle.desk_io.specs.Desk.{Appended, AppendedSome, DeskState, HasNoFault, Untouched}
 use Rattle.desk_io.specs.Source.{GivesAtMost, HasNoReadFault, IsDrained, SourceState}
 use Rattle.soup_checkpoint.specs.declared.faults.HoldFault.{HoldFault}
-use Rattle.soup_hold.specs.Holding.{CanHold, IsEarly, RefusesHold}
+use Rattle.soup_hold.specs.Holding.{AppendedLess, CanHold, IsEarly, RefusesHold}
 use Rattle.soup_words.specs.declared.order.Order.{Order}
 use Rattle.tierra_model.specs.Groups.{GroupFields}
 use Rattle.tierra_model.specs.Setups.{SetupFields}
 use Rattle.soup_top.specs.declared.asking.TheConstants.{MOST_BYTES}
 use Rattle.soup_top.specs.declared.status.Status.{Status}
 use Rattle.soup_top.specs.declared.status.Status.TheVariants as status
-use Rattle.soup_top.specs.Answers.{Cause, DiskIsOfHold, DiskIsOfRun, EachHold, EachMoment, EachRun, GivesNothingToWrite, IsAllTold, IsToldInPart, IsUnfinished, OnBankRefused, OnDone, OnHoldRefused, OnReadWhole, OnStopped, OnUncalled, UnlessDiskFault, UnlessReadFault, UnlessTellFault}
+use Rattle.soup_top.specs.Answers.{AsksForHoldOf, AsksForRunOf, Cause, DiskIsOfHold, DiskIsOfRun, EachMoment, ForText}
+use Rattle.soup_top.specs.Answers.{GivesNothingToWrite, OnBankRefused, OnDone, OnHoldRefused, OnReadWhole, OnStopped}
+use Rattle.soup_top.specs.Answers.{OnUncalled, UnlessDiskFault, UnlessReadFault, UnlessTellFault}
 use Rattle.soup_top.specs.Checkpoints.{DiskHoldsSerial, IsTrueHold, Resumes}
 use Rattle.soup_top.specs.Genebank.{BeginsWith, DiskIsOfHistory, HasGroups, IsInStep, IsTrueMoment, RefusesRun}
 use Rattle.soup_top.specs.Keeping.{IsToldAtRefusal}
 use Rattle.soup_top.specs.Sources.{IsTextOf, read_by, run_groups, run_text}
-use Rattle.soup_top.specs.Words.{AsksFor, ReadsSource, kind_of, texts_of}
+use Rattle.soup_top.specs.Words.{AsksFor, ReadsSource, texts_of}
 
 -- ---- a call
 
@@ -53,11 +55,12 @@ call source_state desk_state words source source_after desk desk_after status = 
 
 -- P holds of the setup and the quanta of each run that the words ask for
 abbrev pub OfRuns : Call → (SetupFields → ℕ → Type 0) → Type 0
-OfRuns c P = EachRun c.words c.source.left P
+OfRuns c P = (setup : SetupFields) (n : ℕ) → AsksForRunOf c.words c.source.left setup n → P setup n
 
 -- the same of each run with checkpoints, which are so many quanta apart
 abbrev pub OfHolds : Call → (SetupFields → ℕ → ℕ → Type 0) → Type 0
-OfHolds c P = EachHold c.words c.source.left P
+OfHolds c P =
+    (setup : SetupFields) (n every : ℕ) → AsksForHoldOf c.words c.source.left setup n every → P setup n every
 
 -- P holds of the disk's file as the call begins, where the desk tells it
 abbrev pub OfFile : Call → (List ℕ → Type 0) → Type 0
@@ -74,6 +77,15 @@ IsQuiet c = AtEachMoment c (λ image text. c.desk.may_leave image)
 -- a read of the file gives the same as before
 abbrev pub ReadsTheSame : Call → Type 0
 ReadsTheSame c = c.desk_after.reads ≡ c.desk.reads
+
+-- nothing was told
+abbrev pub TellsNothing : Call → Type 0
+TellsNothing c = c.desk_after.told ≡ c.desk.told
+
+-- A text that the words ask for was told: all of it (Appended), its first bytes (AppendedSome), or its first bytes
+-- without its end (AppendedLess).
+abbrev pub TellsAsked : Call → (Option (List ℕ) → List ℕ → Option (List ℕ) → Type 0) → Type 0
+TellsAsked c IsTold = ForText c.words c.source.left c.desk.reads (λ text. IsTold c.desk.told text c.desk_after.told)
 
 -- ---- what a run leaves
 
@@ -116,14 +128,14 @@ pub record ComesToSameEnd (c : Call) : Type 0 where
 -- Every action that is done told just its text.
 pub record TellsWhatIsAsked (c : Call) : Type 0 where
   -- the whole text that the words ask for was told, and nothing else
-  pub done : OnDone c.status (IsAllTold c.words c.source.left c.desk.reads c.desk.told c.desk_after.told)
+  pub done : OnDone c.status (TellsAsked c Appended)
 
 -- Whatever the answer, what was told begins the text of a call that is done.
 pub record TellsNothingElse (c : Call) : Type 0 where
   -- nothing was told, or the first bytes of the text that the words ask for
-  pub prefix : IsToldInPart c.words c.source.left c.desk.reads c.desk.told c.desk_after.told
+  pub prefix : TellsNothing c ⊎ TellsAsked c AppendedSome
   -- at an answer but Done and a failed tell, nothing was told, or the text lacks its end
-  pub unfinished : OnStopped c.status (IsUnfinished c.words c.source.left c.desk.reads c.desk.told c.desk_after.told)
+  pub unfinished : OnStopped c.status (TellsNothing c ⊎ TellsAsked c AppendedLess)
 
 -- ---- what is refused
 
@@ -131,7 +143,7 @@ pub record TellsNothingElse (c : Call) : Type 0 where
 pub record IsAsItShould (c : Call) (order : Order) : Type 0 where
   pub asked : AsksFor c.words order
   pub bytes : List ℕ
-  pub given : read_by (kind_of order) c.source.left c.desk.reads ≡ Some bytes
+  pub given : read_by order.action c.source.left c.desk.reads ≡ Some bytes
   pub text : List ℕ
   pub accepted : IsTextOf order bytes c.desk.reads text
   pub run : DiskIsOfRun order bytes c.desk.reads c.desk.may_leave
@@ -165,7 +177,7 @@ pub record SparesRefusedFile (c : Call) : Type 0 where
   pub told_at_refusal : OnBankRefused c.status (λ f. OfRuns c (λ setup n. OfFile c (λ file.
       IsToldAtRefusal (run_groups setup n) c.desk.told c.desk_after.told f)))
   -- checkpoints that are refused before one is appended read the same as before, and nothing was told
-  pub hold_early : OnHoldRefused c.status ((c.desk_after.told ≡ c.desk.told) × OfFile c (λ file. ReadsTheSame c))
+  pub hold_early : OnHoldRefused c.status (TellsNothing c × OfFile c (λ file. ReadsTheSame c))
   -- .. and a crash at each moment leaves what it might have left before
   pub hold_quiet : OnHoldRefused c.status (OfFile c (λ file. IsQuiet c))
   -- .. and so it is in a run with checkpoints, whatever the answer, if the file is one that it must refuse so early
@@ -177,10 +189,10 @@ pub record SparesRefusedFile (c : Call) : Type 0 where
 -- The source and the desk are called as far as needed, and no call follows one that failed.
 pub record CallsNoMore (c : Call) : Type 0 where
   -- an action that reads a source has read it to its end, at any answer that comes after that
-  pub to_its_end : (order : Order) → AsksFor c.words order → ReadsSource (kind_of order)
+  pub to_its_end : (order : Order) → AsksFor c.words order → ReadsSource order.action
       → OnReadWhole c.status (IsDrained c.source c.source_after)
   -- an action that reads no source leaves it alone
-  pub unread : (order : Order) → AsksFor c.words order → (ReadsSource (kind_of order) → ⊥) → c.leaves_source
+  pub unread : (order : Order) → AsksFor c.words order → (ReadsSource order.action → ⊥) → c.leaves_source
   -- a source is never read further than one byte past MOST_BYTES
   pub no_further : GivesAtMost (MOST_BYTES + 1) c.source c.source_after
   -- refused words, a refused source and a failed read leave the desk alone

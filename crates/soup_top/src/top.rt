@@ -1,10 +1,8 @@
 //! The call that does all that the program does.
 
-ghost use Rattle.std.specs.Prelude.{◌-◌, ◌≡◌, ◌≤◌, IfErr, OnOk};
-ghost use Rattle.tierra_model.specs.declared.limits.TheConstants.{MOST_WORKERS};
+ghost use Rattle.std.specs.Prelude.{◌≡◌, IfErr, OnOk};
 ghost use Rattle.desk_io.specs.Desk.{HasNoFault, IsTellCall, KeepsDisk, Untouched};
 ghost use Rattle.desk_io.specs.Source.{HasNoReadFault};
-ghost use Rattle.soup_words.specs.Orders.{IsInRange};
 ghost use Rattle.soup_top.specs.Calls.{CallsNoMore, ComesToSameEnd, HasRightText, KeepsLinesUp, LeavesTrueGenebank, HasItsCause, SparesRefusedFile, TellsNothingElse, TellsWhatIsAsked, call};
 ghost use Rattle.soup_top.specs.Ending.{HasMomentsFor, IsDoneFor, IsStoppedFor};
 ghost use Rattle.soup_top.specs.Stops.{CountsStops};
@@ -14,13 +12,13 @@ use crate::asking::{Task, task_asked};
 use crate::running::run;
 use crate::status::Status;
 use crate::stop::RunStop;
-use crate::texts::groups_text;
 use bank_journal::read_bank;
 use crew::Gate;
 use desk_io::{Desk, Source, TellFailed};
+use genotype_probe::probe_text;
+use report_text::bank_text;
 use soup_hold::hold;
 use soup_watch::watch;
-use soup_words::Order;
 use std::alloc::Global;
 use std::sync::Wait;
 use std::thread::Threads;
@@ -37,22 +35,36 @@ fn tell_some<D: Desk>(desk: &mut D, text: &Text) -> Result<(), TellFailed>
     desk.tell(&text.items)
 }
 
-/// Tells what the order asks of the genebank in the disk's file.
-fn tell_bank<R: Threads + Sync, D: Desk>(
-    rt: &R,
-    alloc: Global,
-    desk: &mut D,
-    order: Order,
-) -> Result<(), RunStop>
-    requires range { IsInRange order }
+/// Tells the genebank in the disk's file.
+fn tell_bank<D: Desk>(alloc: Global, desk: &mut D) -> Result<(), RunStop>
     requires sound { HasNoFault (D.state desk.old) }
-    ensures done { OnOk result (IsDoneFor (Task.Bank order) (D.state desk.old) (D.state desk.new)) }
-    ensures stopped { IfErr result (IsStoppedFor (Task.Bank order) (D.state desk.old) (D.state desk.new)) }
+    ensures done { OnOk result (IsDoneFor Task.Bank (D.state desk.old) (D.state desk.new)) }
+    ensures stopped { IfErr result (IsStoppedFor Task.Bank (D.state desk.old) (D.state desk.new)) }
     ensures kept { KeepsDisk (D.state desk.old) (D.state desk.new) }
     ensures counts { CountsStops result (D.state desk.new) }
 {
     let groups = read_bank(alloc, desk)?;
-    let text = groups_text(rt, alloc, order, &groups)?;
+    let text = bank_text(alloc, &groups)?;
+    Ok(tell_some(desk, &text)?)
+}
+
+/// Tells the efforts of its genotypes.
+fn tell_probe<R: Threads + Sync, D: Desk>(
+    rt: &R,
+    alloc: Global,
+    desk: &mut D,
+    quanta: u64,
+    workers: u32,
+) -> Result<(), RunStop>
+    requires few { IsFew (Task.Probe quanta workers) }
+    requires sound { HasNoFault (D.state desk.old) }
+    ensures done { OnOk result (IsDoneFor (Task.Probe quanta workers) (D.state desk.old) (D.state desk.new)) }
+    ensures stopped { IfErr result (IsStoppedFor (Task.Probe quanta workers) (D.state desk.old) (D.state desk.new)) }
+    ensures kept { KeepsDisk (D.state desk.old) (D.state desk.new) }
+    ensures counts { CountsStops result (D.state desk.new) }
+{
+    let groups = read_bank(alloc, desk)?;
+    let text = probe_text(rt, alloc, &groups, quanta, workers)?;
     Ok(tell_some(desk, &text)?)
 }
 
@@ -63,19 +75,21 @@ fn watch_and_tell<R: Threads + Wait + Sync, G: Gate + Sync, D: Desk>(
     desk: &mut D,
     gate: &G,
     setup: Setup,
-    order: Order,
+    quanta: u64,
+    workers: u32,
+    looks: u64,
 ) -> Result<(), RunStop>
-    requires range { IsInRange order }
-    requires workers { order.workers ≤ MOST_WORKERS - 1 }
+    requires few { IsFew (Task.Watch setup quanta workers looks) }
     requires sound { HasNoFault (D.state desk.old) }
-    ensures done { OnOk result (IsDoneFor (Task.Watch setup order) (D.state desk.old) (D.state desk.new)) }
-    ensures stopped { IfErr result (IsStoppedFor (Task.Watch setup order) (D.state desk.old) (D.state desk.new)) }
+    ensures done { OnOk result
+        (IsDoneFor (Task.Watch setup quanta workers looks) (D.state desk.old) (D.state desk.new)) }
+    ensures stopped { IfErr result
+        (IsStoppedFor (Task.Watch setup quanta workers looks) (D.state desk.old) (D.state desk.new)) }
     ensures untouched { Untouched (D.state desk.old) (D.state desk.new) }
     ensures disk { (D.state desk.new).disk_faults ≡ 0 }
     ensures counts { CountsStops result (D.state desk.new) }
 {
-    let looks = order.looks;
-    let text = watch(rt, alloc, gate, setup, order.quanta, order.workers, looks)?;
+    let text = watch(rt, alloc, gate, setup, quanta, workers, looks)?;
     Ok(desk.tell(&text.items)?)
 }
 
@@ -84,16 +98,17 @@ fn hold_and_tell<D: Desk>(
     alloc: Global,
     desk: &mut D,
     setup: Setup,
-    order: Order,
+    quanta: u64,
+    every: u64,
 ) -> Result<(), RunStop>
-    requires range { IsInRange order }
+    requires few { IsFew (Task.Hold setup quanta every) }
     requires sound { HasNoFault (D.state desk.old) }
-    ensures done { OnOk result (IsDoneFor (Task.Hold setup order) (D.state desk.old) (D.state desk.new)) }
-    ensures stopped { IfErr result (IsStoppedFor (Task.Hold setup order) (D.state desk.old) (D.state desk.new)) }
-    ensures moments { HasMomentsFor (Task.Hold setup order) (D.state desk.old) (D.state desk.new) }
+    ensures done { OnOk result (IsDoneFor (Task.Hold setup quanta every) (D.state desk.old) (D.state desk.new)) }
+    ensures stopped { IfErr result (IsStoppedFor (Task.Hold setup quanta every) (D.state desk.old) (D.state desk.new)) }
+    ensures moments { HasMomentsFor (Task.Hold setup quanta every) (D.state desk.old) (D.state desk.new) }
     ensures counts { CountsStops result (D.state desk.new) }
 {
-    Ok(hold(alloc, desk, &setup, order.quanta, order.every)?)
+    Ok(hold(alloc, desk, &setup, quanta, every)?)
 }
 
 /// Does what was asked.
@@ -120,9 +135,19 @@ fn carry_out<R: Threads + Wait + Sync, G: Gate + Sync, D: Desk>(
             workers,
         } => run(rt, alloc, desk, gate, setup, quanta, workers),
         Task::Tell { text } => Ok(desk.tell(&text.items)?),
-        Task::Bank { order } => tell_bank(rt, alloc, desk, order),
-        Task::Watch { setup, order } => watch_and_tell(rt, alloc, desk, gate, setup, order),
-        Task::Hold { setup, order } => hold_and_tell(alloc, desk, setup, order),
+        Task::Bank => tell_bank(alloc, desk),
+        Task::Probe { quanta, workers } => tell_probe(rt, alloc, desk, quanta, workers),
+        Task::Watch {
+            setup,
+            quanta,
+            workers,
+            looks,
+        } => watch_and_tell(rt, alloc, desk, gate, setup, quanta, workers, looks),
+        Task::Hold {
+            setup,
+            quanta,
+            every,
+        } => hold_and_tell(alloc, desk, setup, quanta, every),
     }
 }
 
