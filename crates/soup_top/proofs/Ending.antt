@@ -1,16 +1,15 @@
 -- How a run and a run with checkpoints end, as their tasks end.
-use Rattle.std.proofs.Common.{◌≡◌, inr, refl, subst, ℕ, List, Option, Result, Ok, Err, IfErr, OnOk}
-use Rattle.std.specs.Prelude.{IfSome, Some}
+use Rattle.std.proofs.Common.{◌≡◌, inl, inr, refl, subst, ℕ, List, Option, Result, Ok, Err, IfErr, OnOk}
+use Rattle.std.specs.Prelude.{IfSome, Some, ◌⊎◌, take}
 use Rattle.bank_journal.proofs.Times.{at_file, each_file}
 use Rattle.bank_recover.specs.declared.faults.BankFault.{BankFault}
-use Rattle.desk_io.specs.Desk.{DeskState, Elapses, TellsText}
+use Rattle.desk_io.specs.Desk.{Appended, AppendedSome, DeskState, Elapses, TellsText}
 use Rattle.bank_journal.specs.Steps.{IsUnwritten}
 use Rattle.soup_checkpoint.specs.declared.faults.HoldFault.{HoldFault}
 use Rattle.soup_hold.specs.Ending.{IsStopped}
-use Rattle.soup_hold.specs.Holding.{AppendedLess, IsEarly, RefusesHold}
+use Rattle.soup_hold.specs.Holding.{AppendedLess, IsEarly, IsHoldText, RefusesHold}
 use Rattle.soup_hold.specs.declared.stop.HoldStop.{HoldStop}
 use Rattle.soup_hold.specs.declared.stop.HoldStop.TheVariants as hold
-use Rattle.soup_words.specs.declared.order.Order.{Order}
 use Rattle.tierra_model.specs.Setups.{SetupFields}
 use Rattle.soup_top.specs.declared.asking.Task.TheVariants as task
 use Rattle.soup_top.specs.declared.stop.RunStop.{RunStop}
@@ -21,8 +20,9 @@ use Rattle.soup_top.specs.Genebank.{BeginsWith, RefusesRun}
 use Rattle.soup_top.specs.Keeping.{IsToldAtRefusal}
 use Rattle.soup_top.specs.Sources.{run_groups, run_text}
 use Rattle.soup_top.specs.Stops.{IfHoldRefused, IfRefused, UnlessTelling, stop_by}
-use Rattle.soup_top.specs.Tasks.{IsPartlyToldFor}
+use Rattle.soup_top.specs.Tasks.{ForTextOf}
 use Rattle.soup_top.proofs.RunAnswers.{RunRefusal}
+use Rattle.soup_top.proofs.Unfinished.{still_unless}
 
 -- ---- a run
 
@@ -58,13 +58,18 @@ module _ (setup : SetupFields) (n w : ℕ) (old new : DeskState) where
   run_holds_none stop.TellFault none = tt
   run_holds_none stop.OutOfMemory none = tt
 
-  pub run_stops : (s : RunStop) → IsPartlyToldFor (task.Run setup n w) old.reads old.told new.told
+  run_partly : (new.told ≡ old.told) ⊎ AppendedSome old.told (run_text setup n) new.told
+      → (new.told ≡ old.told) ⊎ ForTextOf (task.Run setup n w) old.reads (λ text. AppendedSome old.told text new.told)
+  run_partly (inl same) = inl same
+  run_partly (inr some) = inr (run_text setup n, refl, some)
+
+  pub run_stops : (s : RunStop) → (new.told ≡ old.told) ⊎ AppendedSome old.told (run_text setup n) new.told
       → UnlessTelling s (AppendedLess old.told (run_text setup n) new.told) → IfRefused s (RunRefusal setup n old new)
       → IfHoldRefused s (λ f. ⊥) → IfSome old.reads (λ file. (x : BankFault) → RefusesRun setup n file x → Quiet)
       → IsStoppedFor (task.Run setup n w) old new s
   run_stops s partly less refusal none quiet = record {
-    partly = partly;
-    unfinished = less;
+    partly = run_partly partly;
+    unfinished = still_unless s _ _ (λ part. inr (run_text setup n, refl, part)) less;
     refused = run_refused s quiet refusal;
     hold_refused = run_holds_none s none;
   }
@@ -75,7 +80,7 @@ module _ (setup : SetupFields) (n w : ℕ) (old new : DeskState) where
       → IfErr r (IsStoppedFor (task.Run setup n w) old new)
   run_stopped (Ok x) tells less refusal none quiet = tt
   run_stopped (Err s) tells less refusal none quiet =
-      run_stops s (inr (run_text setup n, tells.partly.0, refl, tells.partly.1)) less refusal none quiet
+      run_stops s (inr tells.partly) less refusal none quiet
 
   pub run_done : (r : Result (Unit {0}) RunStop) → TellsText old new (run_text setup n) r
       → OnOk r (IfSome old.reads (λ file. BeginsWith setup n file new.reads new.may_leave)) → OnOk r (IsDoneFor (task.Run setup n w) old new)
@@ -84,26 +89,32 @@ module _ (setup : SetupFields) (n w : ℕ) (old new : DeskState) where
 
 -- ---- a run with checkpoints
 
-module _ (setup : SetupFields) (order : Order) (old new : DeskState) where
+module _ (setup : SetupFields) (n every : ℕ) (old new : DeskState) where
   abbrev IsQuiet : Type 0
   IsQuiet = Elapses old new (λ image text. old.may_leave image)
 
   abbrev QuietAt : HoldFault → List ℕ → Type 0
-  QuietAt f file = RefusesHold setup order.quanta order.every (Some file) f → IsQuiet
+  QuietAt f file = RefusesHold setup n every (Some file) f → IsQuiet
 
   left_alone : (f : HoldFault) → IsEarly f → new.told ≡ old.told → IfSome old.reads (λ file. IsUnwritten old new)
-      → RefusesHold setup order.quanta order.every old.reads f → IfSome old.reads (QuietAt f) → IsLeftAlone old new
+      → RefusesHold setup n every old.reads f → IfSome old.reads (QuietAt f) → IsLeftAlone old new
   left_alone f early told unwritten reason quiet = record {
     told = told;
     reads = each_file old.reads (λ (file : List ℕ). IsUnwritten old new) (λ file. new.reads ≡ old.reads) (λ file is u. u.reads) unwritten;
     quiet = each_file old.reads (QuietAt f) (λ file. IsQuiet)
-        (λ file is q. q (subst (λ (o : Option (List ℕ)). RefusesHold setup order.quanta order.every o f) is reason)) quiet;
+        (λ file is q. q (subst (λ (o : Option (List ℕ)). RefusesHold setup n every o f) is reason)) quiet;
   }
 
-  pub hold_stops : (s : HoldStop) → IsStopped setup order.quanta order.every old new s
-      → ((f : HoldFault) → IsEarly f → IfSome old.reads (QuietAt f)) → IsStoppedFor (task.Hold setup order) old new (stop_by s)
+  hold_partly : (new.told ≡ old.told)
+      ⊎ ((text : List ℕ) × (k : ℕ) × IsHoldText setup n every old.reads text × Appended old.told (take k text) new.told)
+      → (new.told ≡ old.told) ⊎ ForTextOf (task.Hold setup n every) old.reads (λ text. AppendedSome old.told text new.told)
+  hold_partly (inl same) = inl same
+  hold_partly (inr part) = inr (part.0, part.2, (part.1, part.3))
+
+  pub hold_stops : (s : HoldStop) → IsStopped setup n every old new s
+      → ((f : HoldFault) → IsEarly f → IfSome old.reads (QuietAt f)) → IsStoppedFor (task.Hold setup n every) old new (stop_by s)
   hold_stops (hold.Refused f) x quiet = record {
-    partly = x.partly;
+    partly = hold_partly x.partly;
     unfinished = x.unfinished;
     refused = tt;
     hold_refused = record {
@@ -111,6 +122,6 @@ module _ (setup : SetupFields) (order : Order) (old new : DeskState) where
       early = λ early. left_alone f early (x.refused.untold early) (x.refused.unwritten early) x.refused.reason (quiet f early);
     };
   }
-  hold_stops hold.DiskFault x quiet = record { partly = x.partly; unfinished = x.unfinished; refused = tt; hold_refused = tt }
-  hold_stops hold.TellFault x quiet = record { partly = x.partly; unfinished = x.unfinished; refused = tt; hold_refused = tt }
-  hold_stops hold.OutOfMemory x quiet = record { partly = x.partly; unfinished = x.unfinished; refused = tt; hold_refused = tt }
+  hold_stops hold.DiskFault x quiet = record { partly = hold_partly x.partly; unfinished = x.unfinished; refused = tt; hold_refused = tt }
+  hold_stops hold.TellFault x quiet = record { partly = hold_partly x.partly; unfinished = x.unfinished; refused = tt; hold_refused = tt }
+  hold_stops hold.OutOfMemory x quiet = record { partly = hold_partly x.partly; unfinished = x.unfinished; refused = tt; hold_refused = tt }

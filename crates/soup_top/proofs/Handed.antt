@@ -1,5 +1,6 @@
 -- One group more is taken to the bank of a run, and what comes of all of them.
-use Rattle.std.proofs.Common.{◌≡◌, ◌∙◌, refl, sym, ap, ap₂, subst, arith, ℕ, zero, suc, ◌+◌, ◌<◌, ◌≤◌, List, [], ◌∷◌, ◌++◌, length, length-append, take, append-nil, Option, Some, None, Result, Ok, Err, OnOk}
+use Rattle.std.proofs.Common.{◌≡◌, ◌∙◌, refl, sym, ap, ap₂, subst, arith, ℕ, zero, suc, ◌+◌, ◌<◌, ◌≤◌, List, [], ◌∷◌, ◌++◌, length, length-append, take}
+use Rattle.std.proofs.Common.{append-nil, Option, Some, None, Result, Ok, Err, OnOk}
 use Rattle.std.specs.Prelude.{IfErr, IfSome, MatchOption, slice_get, unwrap_or}
 use Rattle.std.proofs.lemmas.List.{drop_all}
 use Rattle.std.proofs.lemmas.Option.{same_Some, slice_get_within}
@@ -121,7 +122,8 @@ took_none first run old attached = record {
   digest = refl;
   inside = omega arith;
   so_far = record {
-    groups_are = sym (ap (λ (rest : List GroupFields). first.groups ++ rest) (drop_all (length first.groups) (take 0 run) (omega arith)) ∙ append-nil first.groups);
+    groups_are = sym (ap (λ (rest : List GroupFields). first.groups ++ rest) (drop_all (length first.groups) (take 0 run) (omega arith))
+        ∙ append-nil first.groups);
     fits = tt;
     told = nothing_appended old.told;
   };

@@ -1,5 +1,6 @@
 -- A run that goes on from a checkpoint of the serial run comes to the serial run's worlds.
-use Rattle.std.proofs.Common.{◌≡◌, ◌∙◌, inl, inr, refl, sym, ap, subst, arith, ℕ, zero, suc, ◌+◌, ◌-◌, ◌*◌, ◌/◌, ◌<◌, ◌≤◌, List, [], ◌++◌, append-nil, length, length-append, take, get_or, Option, Some, None, All}
+use Rattle.std.proofs.Common.{◌≡◌, ◌∙◌, inl, inr, refl, sym, ap, subst, arith, ℕ, zero, suc, ◌+◌, ◌-◌, ◌*◌, ◌/◌, ◌<◌, ◌≤◌, List, [], ◌++◌, append-nil, length}
+use Rattle.std.proofs.Common.{length-append, take, get_or, Option, Some, None, All}
 use Rattle.std.specs.Prelude.{IfSome, IsSomeAnd, option_map, slice_get}
 use Rattle.std.proofs.lemmas.Bool.{cases_lt}
 use Rattle.std.proofs.lemmas.List.{get_or-take, length-take}
@@ -225,7 +226,8 @@ module _ (setup : SetupFields) (start_at : Option ℕ) (reads : Option (List ℕ
     holding_is_true old new time =
         Elapses-weaker (λ image text m.
         holding old.told image text
-        (subst (λ (k : ℕ). IsHolding (owner_of setup) (HoldsState setup (held_of setup start_at)) (first_of setup start_at) (held_quanta every k n) old.told image text)
+        (subst (λ (k : ℕ). IsHolding (owner_of setup) (HoldsState setup (held_of setup start_at)) (first_of setup start_at) (held_quanta every k n) old.told
+        image text)
         first_quanta m)) time
 
     -- and what is told is what the serial run tells after that
@@ -234,7 +236,8 @@ module _ (setup : SetupFields) (start_at : Option ℕ) (reads : Option (List ℕ
     text_is_resumed text t =
         let mine : GoesOnFrom setup reads (first_of setup start_at) = record {
           held = held_of setup start_at;
-          read = subst (λ (o : Option (List ℕ)). IfSome o (HoldsState setup (held_of setup start_at))) (sym disk.told) (holds_state setup start_at disk.file disk.read);
+          read = subst (λ (o : Option (List ℕ)). IfSome o (HoldsState setup (held_of setup start_at))) (sym disk.told)
+              (holds_state setup start_at disk.file disk.read);
           is_first = first_there;
         } in
         let same : t.first ≡ first_of setup start_at = one_beginning setup reads disk.file t.first (first_of setup start_at) disk.told t.goes_on mine in

@@ -1,5 +1,6 @@
 -- The first k groups of a run were taken to a bank that had some, and their lines were told.
-use Rattle.std.proofs.Common.{◌≡◌, ◌∙◌, inl, inr, refl, sym, ap, subst, arith, ℕ, ◌+◌, ◌-◌, ◌<◌, ◌≤◌, List, [], ◌++◌, append-nil, length, take, drop, append_assoc, length-append, length-take, Option, Some}
+use Rattle.std.proofs.Common.{◌≡◌, ◌∙◌, inl, inr, refl, sym, ap, subst, arith, ℕ, ◌+◌, ◌-◌, ◌<◌, ◌≤◌, List, [], ◌++◌, append-nil, length, take, drop}
+use Rattle.std.proofs.Common.{append_assoc, length-append, length-take, Option, Some}
 use Rattle.std.specs.Prelude.{IfSome, slice_get}
 use Rattle.std.proofs.lemmas.List.{take_all}
 use Rattle.std.proofs.lemmas.Option.{slice_get_within}
@@ -83,7 +84,13 @@ module _ {had run : List GroupFields} {k : ℕ} {groups : List GroupFields} {bef
           fits = subst (λ gs. GroupsFit (take (k + 1) gs) (take (k + 1) run)) now_is (taken_fits had run k g at groups now taken so_far.fits);
           told = (start.0, start.1, told.2 ∙ ap (λ t. t ++ some) start.2 ∙ append_assoc start.0 lines some);
           kept_up = subst (λ (j : ℕ). BeginsWithText (saved_lines (take j run)) (lines ++ some)) (sym back) (some, refl);
-          covered = inr (omega (arith, ap length (lines_more run k g at), length-append lines some, length-append lines (group_lines g), length-take i (group_lines g)));
+          covered = inr (omega (
+            arith,
+            ap length (lines_more run k g at),
+            length-append lines some,
+            length-append lines (group_lines g),
+            length-take i (group_lines g),
+          ));
           part = lines_and_some run k g at i;
         }
 

@@ -1,5 +1,6 @@
 -- What the file of a run with checkpoints holds at each moment.
-use Rattle.std.specs.Prelude.{All, IfSome, IsSomeAnd, List, None, Option, Some, length, slice_get, take, unwrap_or, ℕ, ◌++◌, ◌≡◌, ◌⊎◌, ◌≤◌}
+use Rattle.std.specs.Prelude.{All, IfSome, IsSomeAnd, List, None, Option, Some, length, slice_get, take, unwrap_or, ℕ}
+use Rattle.std.specs.Prelude.{◌++◌, ◌≡◌, ◌⊎◌, ◌≤◌}
 use Rattle.desk_io.specs.Desk.{Appended, DeskState, Elapses}
 use Rattle.soup_checkpoint.specs.Hold.{owner_of}
 use Rattle.soup_hold.specs.Holding.{BeginsWithText, HoldsState, HoldsWorld, IsToldAfter}
@@ -15,7 +16,8 @@ HoldsSerial setup None image = HoldsState setup None image
 HoldsSerial setup (Some m) image = HoldsWorld (owner_of setup) (serial setup m) image
 
 -- What a read gives, and whatever a crash may leave, holds the serial run's world after this quantum, or none.
-pub record DiskHoldsSerial (setup : SetupFields) (start : Option ℕ) (reads : Option (List ℕ)) (may_leave : List ℕ → Type 0) : Type 0 where
+pub record DiskHoldsSerial (setup : SetupFields) (start : Option ℕ) (reads : Option (List ℕ))
+    (may_leave : List ℕ → Type 0) : Type 0 where
   pub file : List ℕ
   pub told : reads ≡ Some file
   pub read : HoldsSerial setup start file
@@ -44,7 +46,8 @@ pub record IsHeldAt (quanta : List ℕ) (piece : List ℕ) (k : ℕ) : Type 0 wh
 -- At a moment of a run to quantum n, where `before` was told when it began: the image holds what the file held at the
 -- start, or the serial run's world after a checkpoint since. No checkpoint whose line was told is later. Of the lines
 -- up to the held checkpoint, at most its own was not told yet.
-pub record IsTrueHold (setup : SetupFields) (n every : ℕ) (start : Option ℕ) (before : Option (List ℕ)) (image text : List ℕ) : Type 0 where
+pub record IsTrueHold (setup : SetupFields) (n every : ℕ) (start : Option ℕ) (before : Option (List ℕ))
+    (image text : List ℕ) : Type 0 where
   pub held : Option ℕ
   pub holds : HoldsSerial setup held image
   pub piece : List ℕ

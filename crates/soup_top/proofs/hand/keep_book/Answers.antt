@@ -30,7 +30,8 @@ took_all g c =
     let desk = g.D.Desk.state c.run_book-ran.new.desk in
     let run = run_groups start.setup.value start.quanta in
     let Took = HasTaken start.bank.value run (g.D.Desk.state start.desk.value) desk keeper.done in
-    let taken = none_stopped Took (StopsAt g.D.Desk.state start c.run_book-ran.new.desk) keeper.bank keeper.stopped c.run_book-ran.ensures.way c.in-Ended.ensures.halts in
+    let taken = none_stopped Took (StopsAt g.D.Desk.state start c.run_book-ran.new.desk) keeper.bank keeper.stopped c.run_book-ran.ensures.way
+    c.in-Ended.ensures.halts in
     (taken.0, subst (λ (k : ℕ). HasTaken start.bank.value run (g.D.Desk.state start.desk.value) desk k taken.0) c.in-Ended.ensures.all taken.1)
 
 pub returns-clause-report : goal.returns-clause-report

@@ -14,7 +14,8 @@ so_far : (g : Over) (c : After-take_group g)
     (g.D.Desk.state c.args.desk.now) c.args.keeper.now.done c.in-Some.bank
 so_far g c =
     let start = c.args.start.now in
-    that_bank (HasTaken start.bank.value (run_groups start.setup.value start.quanta) (g.D.Desk.state start.desk.value) (g.D.Desk.state c.args.desk.now) c.args.keeper.now.done)
+    that_bank (HasTaken start.bank.value (run_groups start.setup.value start.quanta) (g.D.Desk.state start.desk.value) (g.D.Desk.state c.args.desk.now)
+    c.args.keeper.now.done)
     c.args.keeper.now.bank c.in-Some.bank c.requires.way (search rules)
 
 pub returns-in_err-bank-clause-stopped : goal.returns-in_err-bank-clause-stopped

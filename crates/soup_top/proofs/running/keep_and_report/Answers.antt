@@ -77,7 +77,8 @@ pub returns-in_err-tell-clause-kept : goal.returns-in_err-tell-clause-kept
 returns-in_err-tell-clause-kept g c = λ k first.
     let state = g.D.Desk.state in
     KeepsDisk-then (state c.args.desk.now) (state c.run_with_crew.new.desk) (state c.tell.new.self)
-    (c.run_with_crew.ensures.kept k first) (KeepsDisk-telling (state c.run_with_crew.new.desk) (state c.tell.new.self) _ c.tell.result c.tell.ensures.call.tells)
+    (c.run_with_crew.ensures.kept k first) (KeepsDisk-telling (state c.run_with_crew.new.desk) (state c.tell.new.self) _ c.tell.result
+    c.tell.ensures.call.tells)
 
 pub returns-clause-completed : goal.returns-clause-completed
 returns-clause-completed g c =
@@ -89,7 +90,8 @@ pub returns-clause-kept : goal.returns-clause-kept
 returns-clause-kept g c = λ k first.
     let state = g.D.Desk.state in
     KeepsDisk-then (state c.args.desk.now) (state c.run_with_crew.new.desk) (state c.tell.new.self)
-    (c.run_with_crew.ensures.kept k first) (KeepsDisk-telling (state c.run_with_crew.new.desk) (state c.tell.new.self) _ c.tell.result c.tell.ensures.call.tells)
+    (c.run_with_crew.ensures.kept k first) (KeepsDisk-telling (state c.run_with_crew.new.desk) (state c.tell.new.self) _ c.tell.result
+    c.tell.ensures.call.tells)
 
 pub returns-clause-moments : goal.returns-clause-moments
 returns-clause-moments g c = reported g (goal.at.returns-clause-moments g c).After-tell

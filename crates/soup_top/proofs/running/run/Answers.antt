@@ -8,7 +8,8 @@ use Rattle.soup_top.specs.Genebank.{RefusesRun}
 use Rattle.soup_top.specs.Sources.{run_groups, run_report, run_text}
 use Rattle.soup_top.specs.Stops.{IfHoldRefused}
 use Rattle.soup_top.proofs.Ending.{run_done, run_stopped, run_stops}
-use Rattle.soup_top.proofs.RunAnswers.{attach-quiet, attach-refused, attach-time, attached-keeps-up, attached-time, differs_of_bank, kept-time, refused-no-hold, run-begins, run-keeps-up, run-quiet, run-refused, run-told, run-unfinished}
+use Rattle.soup_top.proofs.RunAnswers.{attach-quiet, attach-refused, attach-time, attached-keeps-up, attached-time, differs_of_bank, kept-time, refused-no-hold}
+use Rattle.soup_top.proofs.RunAnswers.{run-begins, run-keeps-up, run-quiet, run-refused, run-told, run-unfinished}
 use Rattle.soup_top.proofs.RunMoments.{report_has_bytes}
 use Rattle.soup_top.proofs.Unfinished.{unless_telling}
 use Rattle.soup_top.proofs.running.run.Given.{Over}

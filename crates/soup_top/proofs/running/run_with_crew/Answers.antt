@@ -59,24 +59,29 @@ returns-clause-completed g c =
     c.keep_book.result (took g w))
 
 pub returns-clause-differs : goal.returns-clause-differs
-returns-clause-differs g c = end_differs c.args.bank (run_groups c.args.setup c.args.quanta) (g.D.Desk.state c.args.desk.now) (g.D.Desk.state c.keep_book.new.desk) c.keep_book.result (stopped g (goal.at.returns-clause-differs g c).After-keep_book)
+returns-clause-differs g c = end_differs c.args.bank (run_groups c.args.setup c.args.quanta) (g.D.Desk.state c.args.desk.now)
+    (g.D.Desk.state c.keep_book.new.desk) c.keep_book.result (stopped g (goal.at.returns-clause-differs g c).After-keep_book)
 
 pub returns-clause-kept : goal.returns-clause-kept
 returns-clause-kept g c =
     let w = (goal.at.returns-clause-kept g c).After-keep_book in
-    end_kept c.args.bank (run_groups c.args.setup c.args.quanta) (g.D.Desk.state c.args.desk.now) (g.D.Desk.state c.keep_book.new.desk) c.keep_book.result (took g w) (stopped g w)
+    end_kept c.args.bank (run_groups c.args.setup c.args.quanta) (g.D.Desk.state c.args.desk.now) (g.D.Desk.state c.keep_book.new.desk) c.keep_book.result
+    (took g w) (stopped g w)
 
 pub returns-clause-moments : goal.returns-clause-moments
 returns-clause-moments g c =
     let w = (goal.at.returns-clause-moments g c).After-keep_book in
-    end_time c.args.bank (run_groups c.args.setup c.args.quanta) (g.D.Desk.state c.args.desk.now) (g.D.Desk.state c.keep_book.new.desk) c.keep_book.result (took g w) (stopped g w)
+    end_time c.args.bank (run_groups c.args.setup c.args.quanta) (g.D.Desk.state c.args.desk.now) (g.D.Desk.state c.keep_book.new.desk) c.keep_book.result
+    (took g w) (stopped g w)
 
 pub returns-clause-told : goal.returns-clause-told
 returns-clause-told g c =
     let w = (goal.at.returns-clause-told g c).After-keep_book in
-    end_told c.args.bank (run_groups c.args.setup c.args.quanta) (g.D.Desk.state c.args.desk.now) (g.D.Desk.state c.keep_book.new.desk) c.keep_book.result (took g w) (stopped g w)
+    end_told c.args.bank (run_groups c.args.setup c.args.quanta) (g.D.Desk.state c.args.desk.now) (g.D.Desk.state c.keep_book.new.desk) c.keep_book.result
+    (took g w) (stopped g w)
 
 pub returns-clause-counts : goal.returns-clause-counts
 returns-clause-counts g c =
     let w = (goal.at.returns-clause-counts g c).After-keep_book in
-    end_counts c.args.bank (run_groups c.args.setup c.args.quanta) (g.D.Desk.state c.args.desk.now) (g.D.Desk.state c.keep_book.new.desk) c.keep_book.result (took g w) (stopped g w)
+    end_counts c.args.bank (run_groups c.args.setup c.args.quanta) (g.D.Desk.state c.args.desk.now) (g.D.Desk.state c.keep_book.new.desk) c.keep_book.result
+    (took g w) (stopped g w)

@@ -17,5 +17,12 @@ loop-place-preserved c =
 pub returns : goal.returns
 unfolding shown_key
 returns c =
-    let all : c.loop-place.place ≡ length c.args.key.now = omega (arith, c.loop-place-test.false, c.loop-place.auto.place-end, c.deref-key.ensures.len, ap (λ (key : List ℕ). length key) (c.deref-key.ensures.value ∙ c.key.view_is)) in
+    let all : c.loop-place.place ≡ length c.args.key.now =
+    omega (
+      arith,
+      c.loop-place-test.false,
+      c.loop-place.auto.place-end,
+      c.deref-key.ensures.len,
+      ap (λ (key : List ℕ). length key) (c.deref-key.ensures.value ∙ c.key.view_is),
+    ) in
     c.loop-place.invariant ∙ ap (λ (n : ℕ). flat_map (shown_byte c.args.key.now) (range_with_len 0 n)) all

@@ -38,6 +38,16 @@ returns-in-Bank-clause-stopped g c =
     stopped_as _ _ (g.D.Desk.state c.args.desk.now) (g.D.Desk.state c.tell_bank.new.desk) c.tell_bank.result c.in-Bank.is
     c.tell_bank.ensures.stopped
 
+pub returns-in-Probe-clause-done : goal.returns-in-Probe-clause-done
+returns-in-Probe-clause-done g c =
+    done_as _ _ (g.D.Desk.state c.args.desk.now) (g.D.Desk.state c.tell_probe.new.desk) c.tell_probe.result c.in-Probe.is
+    c.tell_probe.ensures.done
+
+pub returns-in-Probe-clause-stopped : goal.returns-in-Probe-clause-stopped
+returns-in-Probe-clause-stopped g c =
+    stopped_as _ _ (g.D.Desk.state c.args.desk.now) (g.D.Desk.state c.tell_probe.new.desk) c.tell_probe.result c.in-Probe.is
+    c.tell_probe.ensures.stopped
+
 pub returns-in-Watch-clause-done : goal.returns-in-Watch-clause-done
 returns-in-Watch-clause-done g c =
     done_as _ _ (g.D.Desk.state c.args.desk.now) (g.D.Desk.state c.watch_and_tell.new.desk) c.watch_and_tell.result c.in-Watch.is

@@ -6,7 +6,7 @@ use Rattle.soup_top.proofs.top.hold_and_tell.Goals as goal
 pub returns-in_err-hold-clause-stopped : goal.returns-in_err-hold-clause-stopped
 returns-in_err-hold-clause-stopped g c =
     let stop = err_from_is_err_and c.from_residual.result c.from_residual.ensures.1 in
-    rw (stop.1, stop.2) (hold_stops c.args.setup c.args.order (g.D.Desk.state c.args.desk.now) (g.D.Desk.state c.hold.new.desk)
+    rw (stop.1, stop.2) (hold_stops c.args.setup c.args.quanta c.args.every (g.D.Desk.state c.args.desk.now) (g.D.Desk.state c.hold.new.desk)
     c.in_err-hold.field-0.0 c.in_err-hold.ensures.stopped c.hold.ensures.quiet)
 
 pub returns-in_err-hold-clause-moments : goal.returns-in_err-hold-clause-moments
@@ -14,8 +14,8 @@ returns-in_err-hold-clause-moments g c = record {
   crash = tt;
   kept_up = tt;
   quiet_run = tt;
-  checkpoints = has_true_moments c.args.setup c.args.order.quanta c.args.order.every (g.D.Desk.state c.args.desk.now)
-      (g.D.Desk.state c.hold.new.desk) c.hold.ensures.setup c.requires.range.every.0 c.hold.ensures.moments;
+  checkpoints = has_true_moments c.args.setup c.args.quanta c.args.every (g.D.Desk.state c.args.desk.now)
+      (g.D.Desk.state c.hold.new.desk) c.hold.ensures.setup c.requires.few.1 c.hold.ensures.moments;
   quiet_hold = c.hold.ensures.quiet;
 }
 
@@ -26,8 +26,8 @@ returns-clause-done g c =
       told = done.told;
       begins = tt;
       small = done.small;
-      resumed = resumes c.args.setup c.args.order.quanta c.args.order.every (g.D.Desk.state c.args.desk.now)
-          (g.D.Desk.state c.hold.new.desk) c.hold.ensures.setup c.requires.range.every.0 done.told;
+      resumed = resumes c.args.setup c.args.quanta c.args.every (g.D.Desk.state c.args.desk.now)
+          (g.D.Desk.state c.hold.new.desk) c.hold.ensures.setup c.requires.few.1 done.told;
     }
 
 pub returns-clause-moments : goal.returns-clause-moments
@@ -35,7 +35,7 @@ returns-clause-moments g c = record {
   crash = tt;
   kept_up = tt;
   quiet_run = tt;
-  checkpoints = has_true_moments c.args.setup c.args.order.quanta c.args.order.every (g.D.Desk.state c.args.desk.now)
-      (g.D.Desk.state c.hold.new.desk) c.hold.ensures.setup c.requires.range.every.0 c.hold.ensures.moments;
+  checkpoints = has_true_moments c.args.setup c.args.quanta c.args.every (g.D.Desk.state c.args.desk.now)
+      (g.D.Desk.state c.hold.new.desk) c.hold.ensures.setup c.requires.few.1 c.hold.ensures.moments;
   quiet_hold = c.hold.ensures.quiet;
 }
