@@ -36,12 +36,14 @@ first_none zero = refl
 first_none (suc n) = refl
 
 -- one quantum more
-module _ (b : BookFields) (committed : ℕ) (history : List Entry) (w : World) (none : b.stash ≡ replicate b.window None) (k : IsBook (state_of b committed history) w) where
+module _ (b : BookFields) (committed : ℕ) (history : List Entry) (w : World) (none : b.stash ≡ replicate b.window None)
+    (k : IsBook (state_of b committed history) w) where
   abbrev x : BookFields
   x = state_of b committed history
 
   missing : next_how x ≡ how.Missing
-  missing = ap (λ (xs : List (Option Finding)). how_of (slice_index_or xs 0 None) (world_of x)) none ∙ ap (λ (o : Option Finding). how_of o (world_of x)) (first_none b.window)
+  missing = ap (λ (xs : List (Option Finding)). how_of (slice_index_or xs 0 None) (world_of x)) none ∙ ap (λ (o : Option Finding). how_of o (world_of x))
+      (first_none b.window)
 
   entry : next_entry 1 x ≡ record { quantum = length history + 1; creature = first_of w.slicer; by = 1; how = how.Missing }
   entry = (λ i. record { quantum = sym k.each i + 1; creature = first_of (sym k.world i).slicer; by = 1; how = missing i })

@@ -20,7 +20,8 @@ entries-length ds n [] = refl
 entries-length ds n (l ∷ ls) = ap (λ (k : ℕ). suc k) (entries-length ds (n + 1) ls)
 
 -- a line more
-pub entries-push : (ds : List Stale) (n : ℕ) (ls : List Line) (l : Line) → entries_of ds n (ls ++ l ∷ []) ≡ entries_of ds n ls ++ entry_of ds (n + length ls) l ∷ []
+pub entries-push : (ds : List Stale) (n : ℕ) (ls : List Line) (l : Line)
+    → entries_of ds n (ls ++ l ∷ []) ≡ entries_of ds n ls ++ entry_of ds (n + length ls) l ∷ []
 entries-push ds n [] l = let e : n ≡ n + 0 = omega arith in ap (λ (k : ℕ). entry_of ds k l ∷ []) e
 entries-push ds n (k ∷ ks) l =
     let e : n + 1 + length ks ≡ n + suc (length ks) = omega arith in
@@ -37,7 +38,8 @@ how-push ds d way.Missing h = refl
 how-push ds d (way.Stale k) h = ap (λ (s : Stale). how_by (s ∷ []) (way.Stale 0)) (index-push ds d k h)
 
 -- a difference more
-entries-more : (ds : List Stale) (d : Stale) (n : ℕ) (ls : List Line) → Each (λ l. IsThere (length ds) l.way) ls → entries_of (ds ++ d ∷ []) n ls ≡ entries_of ds n ls
+entries-more : (ds : List Stale) (d : Stale) (n : ℕ) (ls : List Line) → Each (λ l. IsThere (length ds) l.way) ls
+    → entries_of (ds ++ d ∷ []) n ls ≡ entries_of ds n ls
 entries-more ds d n [] h = refl
 entries-more ds d n (l ∷ ls) h =
     (λ i. record { quantum = n + 1; creature = l.creature; by = l.by; how = how-push ds d l.way h.0 i } ∷ entries-more ds d (n + 1) ls h.1 i)
@@ -69,7 +71,8 @@ each-at n (l ∷ ls) zero d h e = e.0
 each-at n (l ∷ ls) (suc k) d h e = each-at n ls k d (omega arith) e.1
 
 -- the entry at a place
-pub entries-at : (ds : List Stale) (n : ℕ) (ls : List Line) (k : ℕ) (d : Line) → k < length ls → slice_get (entries_of ds n ls) k ≡ Some (entry_of ds (n + k) (get_or ls k d))
+pub entries-at : (ds : List Stale) (n : ℕ) (ls : List Line) (k : ℕ) (d : Line) → k < length ls
+    → slice_get (entries_of ds n ls) k ≡ Some (entry_of ds (n + k) (get_or ls k d))
 entries-at ds n [] k d h = absurd (omega arith)
 entries-at ds n (l ∷ ls) zero d h = let e : n ≡ n + 0 = omega arith in ap (λ (m : ℕ). Some (entry_of ds m l)) e
 entries-at ds n (l ∷ ls) (suc k) d h =

@@ -22,7 +22,8 @@ starts kept last b x t u is same = record {
 }
 
 -- one quantum more
-pub goes_on : (kept last : ℕ) (b x y : BookFields) (t u v : ℕ) → IsWorking kept last b x t u → (Pauses kept last x → ⊥) → y ≡ with_next 1 x → v ≡ u + next_steps x
+pub goes_on : (kept last : ℕ) (b x y : BookFields) (t u v : ℕ) → IsWorking kept last b x t u → (Pauses kept last x → ⊥) → y ≡ with_next 1 x
+    → v ≡ u + next_steps x
     → IsWorking kept last b y t v
 goes_on kept last b x y t u v w on next ticks = record {
   done = suc w.done;

@@ -48,7 +48,8 @@ yard-divide w ran moved b l t old held =
     ap (λ (d : Option Block). yard (born d)) held
     ∙ map-append shown w.reaper (n ∷ [])
     ∙ ap (λ (s : List Standing). s ++ shown n ∷ []) (map-cong-in shown (λ id. replaced c (standing (one_of w.living id))) w.reaper
-    (λ id there. shown-old w c nb here id (is_here-times w.living id (rw (← t.reaper id) there))) ∙ sym (map-twice c (λ id. standing (one_of w.living id)) w.reaper))
+    (λ id there. shown-old w c nb here id (is_here-times w.living id (rw (← t.reaper id) there)))
+    ∙ sym (map-twice c (λ id. standing (one_of w.living id)) w.reaper))
     ∙ ap (λ (s : Standing). with_standing c (yard w) ++ s ∷ []) newest
   where
     n : ℕ

@@ -14,8 +14,8 @@ last_of most b = min b.quanta (b.committed + most)
 abbrev pub Pauses : (kept last : ℕ) → BookFields → Type 0
 Pauses kept last b = (last ≤ b.committed) ⊎ (kept < number_saved b)
 
--- The new book is the old one after `done` more quanta, the least number after which the work pauses. Caller 1 committed
--- them, and the counter went from t to u.
+-- The new book is the old one after `done` more quanta, the least number after which the work pauses. Caller 1
+-- committed them, and the counter went from t to u.
 pub record WorksOn (kept last : ℕ) (old new : BookFields) (t u : ℕ) : Type 0 where
   pub done : ℕ
   pub book : new ≡ after_commits 1 done old

@@ -25,7 +25,12 @@ IsThere n (way.Stale place) = place < n
 abbrev pub entries_of : List Stale → ℕ → List Line → List Entry
 entries_of differences n [] = []
 entries_of differences n (l ∷ ls) =
-    record { quantum = n + 1; creature = l.creature; by = l.by; how = how_by differences l.way } ∷ entries_of differences (n + 1) ls
+    record {
+      quantum = n + 1;
+      creature = l.creature;
+      by = l.by;
+      how = how_by differences l.way;
+    } ∷ entries_of differences (n + 1) ls
 
 -- lines whose differences are in the list before have the same entries with the list after
 abbrev pub KeepsLines : List Stale → List Stale → Type 0

@@ -25,13 +25,15 @@ pub none_is_next : (setup : SetupFields) (n k : ℕ) → AreNext setup n k []
 none_is_next setup n k = refl
 
 -- with all groups of a quantum, it has those of all quanta with as many savings
-pub has_of : (setup : SetupFields) (n c kept done : ℕ) → n ≤ MOST_QUANTA → c ≤ n → kept ≡ length (serial setup c).saved → HasGroups setup c done → HasGroupsOf setup n kept done
+pub has_of : (setup : SetupFields) (n c kept done : ℕ) → n ≤ MOST_QUANTA → c ≤ n → kept ≡ length (serial setup c).saved → HasGroups setup c done
+    → HasGroupsOf setup n kept done
 has_of setup n c kept done most few is has setup_is m within saved = elim (cases_lt c m) [
   | inl later ↦
       let e : c + (m - c) ≡ m = omega (arith, later) in
       let few_saved : length (serial setup (c + (m - c))).saved ≤ length (serial setup c).saved
       = omega (arith, saved, is, ap (λ (k : ℕ). length (serial setup k).saved) e) in
-      let same : run_bank setup m ≡ run_bank setup c = ap (run_bank setup) (sym e) ∙ quiet setup c (m - c) setup_is (omega (arith, e, within, most)) few_saved in
+      let same : run_bank setup m ≡ run_bank setup c = ap (run_bank setup)
+      (sym e) ∙ quiet setup c (m - c) setup_is (omega (arith, e, within, most)) few_saved in
       omega (arith, ap length same, has)
   | inr sooner ↦ omega (arith, grows setup m c sooner, has)
 ]

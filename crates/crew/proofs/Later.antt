@@ -20,9 +20,10 @@ pub record IsWorked (old new : BookFields) : Type 0 where
   pub more : old.committed < old.quanta → old.committed < new.committed
 
 -- it does not pause before it begins
-some_done : (old new : BookFields) (t u : ℕ) → WorksOn (number_saved old) (last_of old.quanta old) old new t u → old.committed < old.quanta → old.committed < new.committed
-some_done old new t u w left = elim w.pauses [
-  | inl all ↦ omega (arith, left, all)
+some_done : (most : ℕ) (old new : BookFields) (t u : ℕ) → 0 < most → WorksOn (number_saved old) (last_of most old) old new t u
+    → old.committed < old.quanta → old.committed < new.committed
+some_done most old new t u some w left = elim w.pauses [
+  | inl all ↦ omega (arith, some, left, all)
   | inr saved ↦ go w.done w.book saved
 ]
   where
@@ -30,11 +31,12 @@ some_done old new t u w left = elim w.pauses [
     go zero is h = absurd (let n : ⊥ = omega (arith, h, ap number_saved is) in n)
     go (suc k) is h = omega (arith, ap (λ (b : BookFields). b.committed) is, (commits-later (suc k) old).committed)
 
-pub worked : (old new : BookFields) (t u : ℕ) → WorksOn (number_saved old) (last_of old.quanta old) old new t u → IsWorked old new
-worked old new t u w =
+pub worked : (most : ℕ) (old new : BookFields) (t u : ℕ) → 0 < most → WorksOn (number_saved old) (last_of most old) old new t u
+    → IsWorked old new
+worked most old new t u some w =
     let l = commits-later w.done old in
     record {
       setup = ap (λ (b : BookFields). b.setup) w.book ∙ l.setup;
       quanta = ap (λ (b : BookFields). b.quanta) w.book ∙ l.quanta;
-      more = some_done old new t u w;
+      more = some_done most old new t u some w;
     }

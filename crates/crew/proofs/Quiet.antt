@@ -1,5 +1,6 @@
 -- Where no genotype is saved, no group is added to the genebank.
-use Rattle.std.proofs.Common.{◌≡◌, ℕ, zero, suc, ◌+◌, ◌-◌, ◌<◌, ◌≤◌, List, [], ◌∷◌, ◌++◌, refl, ◌∙◌, ap, subst, arith, inl, inr, cond, length, append-nil, length-append}
+use Rattle.std.proofs.Common.{◌≡◌, ℕ, zero, suc, ◌+◌, ◌-◌, ◌<◌, ◌≤◌, List, [], ◌∷◌, ◌++◌, refl, ◌∙◌, ap, subst, arith, inl, inr, cond, length, append-nil}
+use Rattle.std.proofs.Common.{length-append}
 use Rattle.std.specs.Prelude.{All, filter, map, ◌==◌}
 use Rattle.std.proofs.lemmas.Bool.Decides.{eqb_tells}
 use Rattle.std.proofs.lemmas.List.Elements.{All-head, All-tail}
@@ -90,7 +91,8 @@ bank-none setup m (suc q) none h =
     let e : q + (m - q) ≡ m = omega (arith, h) in
     let still : length (serial setup q).saved ≤ 0 = omega (arith, saved-grows setup q (m - q), ap (λ (k : ℕ). length (serial setup k).saved) e, none) in
     let nothing : saved_in q (serial setup q) ≡ [] =
-    ap (λ (xs : List Saving). map (saved_of (serial setup q).genotypes) (filter (λ s. s.quantum == q) xs)) (empty_if (serial setup q).saved (omega (arith, still))) in
+    ap (λ (xs : List Saving). map (saved_of (serial setup q).genotypes) (filter (λ s. s.quantum == q) xs))
+    (empty_if (serial setup q).saved (omega (arith, still))) in
     ap (λ xs. bank setup q ++ group_if_any q xs) nothing ∙ append-nil (bank setup q) ∙ bank-none setup m q none (omega (arith, h))
 
 pub none_saved : (setup : SetupFields) (m : ℕ) → length (serial setup m).saved ≤ 0 → run_bank setup m ≡ []

@@ -24,7 +24,8 @@ first_speaks at caller m s t least f w = record {
 }
 
 -- after one more was split off
-pub first_next : (at : LockFields) (caller : ℕ) (s t : SeatFields) → IsFirst at caller s → t ≡ record s { last_caller = Some caller } → IsFirst at (caller + 1) t
+pub first_next : (at : LockFields) (caller : ℕ) (s t : SeatFields) → IsFirst at caller s → t ≡ record s { last_caller = Some caller }
+    → IsFirst at (caller + 1) t
 first_next at caller s t f is = subst (IsFirst at (caller + 1)) (sym is) (record {
   lock = f.lock;
   turns = f.turns;

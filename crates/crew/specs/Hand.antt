@@ -43,7 +43,8 @@ HandsBy (Ok next) halts = HaltsBy next halts
 HandsBy (Err e) halts = halts ≡ 0
 
 -- a hand of the run, which has not halted
-pub record IsUnhalted (run : SetupFields × ℕ) (setup : SetupFields) (quanta done halts : ℕ) (Can : Type 0) : Type 0 where
+pub record IsUnhalted (run : SetupFields × ℕ) (setup : SetupFields) (quanta done halts : ℕ)
+    (Can : Type 0) : Type 0 where
   pub unhalted : halts ≡ 0
   pub run_is : run ≡ (setup, quanta)
   pub within : done ≤ length (run_bank setup quanta)

@@ -10,7 +10,7 @@ use crate::hand::{Hand, Next};
 use crate::handing::hand_all;
 use crate::runs::Ran;
 use commit_book::Book;
-use mutation_streams::NoTape;
+use mutation_streams::{NoTape, Tape};
 use std::alloc::Global;
 use std::marker::Brand;
 use std::sync::ledger::{Blank, Ledger};
@@ -56,21 +56,40 @@ fn work_on<H: Hand>(alloc: Global, book: Book, hand: &H) -> Result<Book, OutOfMe
     ensures works { IfOk result (λ b. (u : ℕ) × WorksOn (number_saved book) (last_of book.quanta book) book b 0 u) }
     ensures few { IfOk result (λ b. b.committed ≤ b.quanta) }
 {
-    let worked = counted_work::<Brand>(alloc, book, Blank::new(1))?;
-    let _committed = worked.committed();
+    let most = book.quanta();
+    work_some(alloc, book, &mut NoTape, most)
+}
+
+/// Commits quanta until one saves a genotype, all are committed, or this many were. The draws are those of the tape.
+pub(crate) fn work_some<T: Tape>(
+    alloc: Global,
+    book: Book,
+    tape: &mut T,
+    most: u64,
+) -> Result<Book, OutOfMemory>
+    ensures works { IfOk result (λ b. (u : ℕ) × WorksOn (number_saved book) (last_of most book) book b 0 u) }
+    ensures few { IfOk result (λ b. b.committed ≤ b.quanta) }
+{
+    let worked = counted_work::<Brand, T>(alloc, book, tape, most, Blank::new(1))?;
+    let _committed = worked.committed(); // for its contract alone
     Ok(worked)
 }
 
 // The same, with an account of the instructions that only contracts see.
-fn counted_work<L: Ledger>(alloc: Global, book: Book, blank: Blank) -> Result<Book, OutOfMemory>
+fn counted_work<L: Ledger, T: Tape>(
+    alloc: Global,
+    book: Book,
+    tape: &mut T,
+    most: u64,
+    blank: Blank,
+) -> Result<Book, OutOfMemory>
     requires name { blank.name ≡ L.name }
     requires parts { blank.parts ≡ L.parts }
     requires some { 0 < L.parts }
-    ensures { IfOk result (λ b. (u : ℕ) × WorksOn (number_saved book) (last_of book.quanta book) book b 0 u) }
+    ensures { IfOk result (λ b. (u : ℕ) × WorksOn (number_saved book) (last_of most book) book b 0 u) }
 {
     let mut steps = Steps::<L>::start(blank);
-    let most = book.quanta();
-    let worked = book.work_on(alloc, &mut NoTape, most, &mut steps)?;
+    let worked = book.work_on(alloc, tape, most, &mut steps)?;
     Ok(worked)
 }
 

@@ -22,7 +22,7 @@ fn is_run(book: &Book)
 }
 
 // The groups of the book's world from place `done` on.
-fn new_groups(alloc: Global, book: &Book, done: u64) -> Result<Groups, OutOfMemory>
+pub(crate) fn new_groups(alloc: Global, book: &Book, done: u64) -> Result<Groups, OutOfMemory>
     ensures groups { IfOk result (λ g. g ≡ drop done (run_bank book.now.setup book.now.committed)) }
     ensures next { IfOk result (AreNext book.now.setup book.now.quanta done) }
 {

@@ -1,6 +1,6 @@
 //! Worker 1, who hands over new groups between its turns.
 
-ghost use Rattle.std.specs.Prelude.{◌≡◌, ◌<◌, ◌≤◌, ◌^◌, IsTrue, length};
+ghost use Rattle.std.specs.Prelude.{◌≡◌, ◌+◌, ◌*◌, ◌<◌, ◌≤◌, ◌^◌, IsTrue, length};
 ghost use Rattle.tierra_model.specs.declared.limits.TheConstants.{MOST_QUANTA};
 ghost use Rattle.crew.specs.Hand.{HasGroups, HasGroupsOf, IsUnhalted, WasLed, run_bank};
 ghost use Rattle.crew.specs.Works.{HasWorked};
@@ -107,7 +107,7 @@ pub(crate) fn lead<R: Wait, G: Gate, H: Hand>(
     requires can { H.can_put hand.old }
     requires setup { lock.now.opening.setup ≡ (H.setup hand.old, H.quanta hand.old) }
     requires within { H.done hand.old ≤ length (run_bank (H.setup hand.old) (H.quanta hand.old)) }
-    ensures worked { HasWorked 8000004 seat result.seat }
+    ensures worked { HasWorked (2 * MOST_QUANTA + 4) seat result.seat }
     ensures hand { WasLed result.next (H.setup hand.old) (H.setup hand.new) (H.quanta hand.old) (H.quanta hand.new)
         (H.done hand.new) (H.halts hand.new) (H.can_put hand.new) (H.goes_to hand.old hand.new) }
 {

@@ -3,11 +3,13 @@
 ghost use Rattle.std.specs.Prelude.{◌≡◌, ◌+◌, ◌-◌, ◌<◌, ◌≤◌, IfOk, OnErr, OnOk, length, true};
 ghost use Rattle.tierra_model.specs.declared.limits.TheConstants.{MOST_WORKERS};
 ghost use Rattle.std.specs.Thread.{IsSync};
+ghost use Rattle.crew.specs.Beside.{IsOfRun};
 ghost use Rattle.crew.specs.Hand.{IsUnhalted, WasLed, run_bank};
 ghost use Rattle.crew.specs.Ran.{HaltsAsIn, IfEnded, IfHalted};
 ghost use Rattle.crew.specs.Works.{IsFirst, IsOther, IsThere, SpeaksFrom};
 
 use crate::alone::{halted, run_alone};
+use crate::beside::{Left, run_beside};
 use crate::gate::Gate;
 use crate::hand::{Hand, Next};
 use crate::lead::{Led, lead};
@@ -15,6 +17,7 @@ use crate::trial::Stay;
 use crate::worker::work_while;
 use commit_book::Book;
 use std::alloc::Global;
+use std::marker::Brand;
 use std::sync::Wait;
 use std::thread::{Threads, join_mut};
 use tierra_model::OutOfMemory;
@@ -156,16 +159,57 @@ pub fn run_crew<R: Threads + Wait + Sync, G: Gate + Sync, H: Hand>(
     ensures run { (H.setup hand.new ≡ H.setup hand.old) × (H.quanta hand.new ≡ H.quanta hand.old) }
     ensures later { H.goes_to hand.old hand.new }
 {
-    let _committed = book.committed();
+    let _committed = book.committed(); // for its contract alone
     let Ok((lock, first)) = TurnLock::of(alloc, book) else {
         return Ran::OutOfMemory;
     };
     let mut first = Some(first);
-    let stay = Stay::WhileTaken { workers };
+    let stay = Stay::ForTheTrial;
     let Led { seat, next } = crew_from(rt, alloc, &lock, &mut first, 2, workers, gate, stay, hand);
     let book = lock.close(seat);
     match next {
-        Next::Go => run_alone(alloc, book, hand),
+        Next::Go => run_rest(rt, alloc, book, workers, hand),
         Next::Halt => halted(book),
     }
+}
+
+// Runs a book to its end after its jobs, with several workers as far as these can be had. If worker 2 finds no memory, the
+// book is lost. If besides the hand has halted, a book of the same run is there for the answer.
+fn run_rest<R: Threads + Wait + Sync, H: Hand>(
+    rt: &R,
+    alloc: Global,
+    book: Book,
+    workers: u32,
+    hand: &mut H,
+) -> Ran
+    requires hand { IsUnhalted (book.setup, book.quanta) (H.setup hand.old) (H.quanta hand.old)
+        (H.done hand.old) (H.halts hand.old) (H.can_put hand.old) }
+    ensures ended { IfEnded result (λ b. (b.setup ≡ book.setup) × (b.quanta ≡ book.quanta) × (b.committed ≡ b.quanta)) }
+    ensures all_put { IfEnded result (λ b. H.done hand.new ≡ length (run_bank book.setup book.quanta)) }
+    ensures halted { IfHalted result (λ b. (b.setup ≡ book.setup) × (b.quanta ≡ book.quanta) × (b.stopped ≡ true)) }
+    ensures halts { HaltsAsIn result (H.halts hand.new) }
+    ensures run { (H.setup hand.new ≡ H.setup hand.old) × (H.quanta hand.new ≡ H.quanta hand.old) }
+    ensures later { H.goes_to hand.old hand.new }
+{
+    if workers == 1 {
+        return run_alone(alloc, book, hand);
+    }
+    let Ok(spare) = another(alloc, &book) else {
+        return run_alone(alloc, book, hand);
+    };
+    let Left { book, next } = run_beside::<Brand, R, H>(rt, alloc, book, workers, hand);
+    match (book, next) {
+        (Ok(book), Next::Go) => run_alone(alloc, book, hand),
+        (Ok(book), Next::Halt) => halted(book),
+        (Err(_), Next::Go) => Ran::OutOfMemory,
+        (Err(_), Next::Halt) => halted(spare),
+    }
+}
+
+// A book of the same run, at its beginning.
+fn another(alloc: Global, book: &Book) -> Result<Book, OutOfMemory>
+    ensures { IfOk result (IsOfRun book.now.setup book.now.quanta) }
+{
+    let setup = book.setup().copy(alloc)?;
+    Book::begin(alloc, setup, book.quanta(), 1)
 }

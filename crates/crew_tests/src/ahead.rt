@@ -4,14 +4,14 @@ ghost use Rattle.std.specs.Prelude.{◌≤◌};
 
 use crate::gates::{BarrierGate, CountGate, PlanGate, Until};
 use crate::hands::{LOOPS, history_of};
-use crew::takes_jobs;
+use crew::{number_of_drawers, takes_jobs};
 use std::alloc::Global;
 use std::process::Abort;
 use std::sync::Wait;
 use std::test::Fail;
 use std::thread::Threads;
 use test_soups::TWO;
-use tierra_model::{How, Stale};
+use tierra_model::{How, Stale, defaults};
 
 // The two creatures, too far apart to meet.
 const FAR: &str = "soup_size = 1000\n[[creature]]\nat = 0\ncode = 'inc_b mov_iab'\n\
@@ -90,27 +90,27 @@ fn each_worker_commits_what_it_found(rt: HostRuntime) -> Result<(), Fail> {
 }
 
 #[test]
-fn all_workers_go_on_with_long_jobs(rt: HostRuntime) -> Result<(), Fail> {
-    go_on_with_long_jobs(&rt, rt.alloc(), 2)?;
-    go_on_with_long_jobs(&rt, rt.alloc(), 3)
+fn all_workers_take_jobs(rt: HostRuntime) -> Result<(), Fail> {
+    take_jobs(&rt, rt.alloc(), 2)?;
+    take_jobs(&rt, rt.alloc(), 3)
 }
 
-// Each worker has a job past the trial, and what it found is offered; nearly all that is found is committed.
-fn go_on_with_long_jobs<R: Threads + Wait + Sync + Abort>(
+// Each worker has a job past the first hundred, and what it found is offered; nearly all that is found is committed.
+fn take_jobs<R: Threads + Wait + Sync + Abort>(
     rt: &R,
     alloc: Global,
     workers: u32,
 ) -> Result<(), Fail>
     requires { (1 ≤ workers) × (workers ≤ 3) }
 {
-    let gate = BarrierGate::new(workers, 256);
-    let lines = history_of(rt, alloc, LOOPS, 2000, workers, &gate)?;
+    let gate = BarrierGate::new(workers, 100);
+    let lines = history_of(rt, alloc, LOOPS, 256, workers, &gate)?;
     assert!(rt; !gate.is_limit_met(), "{workers} workers");
     for worker in 1..=workers {
         assert!(rt; gate.afters_of(worker) > 0, "worker {worker} of {workers}");
     }
     let fresh = lines.iter().filter(|line| line.1 == How::Fresh).count();
-    assert!(rt; fresh >= 1800, "{fresh} with {workers} workers");
+    assert!(rt; fresh >= 230, "{fresh} with {workers} workers");
     Ok(())
 }
 
@@ -143,28 +143,48 @@ fn short_jobs_end_with_the_trial(rt: HostRuntime) -> Result<(), Fail> {
 }
 
 #[test]
-fn jobs_are_taken_in_the_trial_or_where_they_are_long(rt: HostRuntime) {
-    // The workers, the quanta that are committed, the living, and a slice.
-    let rows: [(u32, u16, u32, u32, bool); 12] = [
-        (1, 0, 28_000, 25, true),
-        (1, 255, 2, 1, true),
-        (1, 256, 2, 1, false),
-        (1, 256, 2, 10_000, false),
-        (1, 127, 3937, 25, true), // 499,999
-        (1, 125, 4000, 25, false),
-        (2, 125, 4000, 2999, false),
-        (2, 125, 4000, 3000, true),
-        (2, 256, 2, 2999, false),
-        (2, 256, 2, 3000, true),
-        (1, 256, 2, 3000, false),
-        (64, 60_000, 28_000, 10_000, true),
+fn jobs_are_taken_in_the_trial(rt: HostRuntime) {
+    // The quanta that are committed, and the living.
+    let rows: [(u64, u32, bool); 8] = [
+        (0, 28_000, true),
+        (255, 2, true),
+        (256, 2, false),
+        (4_000_000, 1, false),
+        (127, 3937, true), // 499,999
+        (125, 4000, false),
+        (17, 28_000, true),
+        (18, 28_000, false),
     ];
-    for (workers, committed, living, slice, want) in rows {
-        let is_taken = takes_jobs(workers, u64::from(committed), living, slice);
+    for (committed, living, want) in rows {
+        let is_taken = takes_jobs(committed, living);
+        assert_eq!(rt; is_taken, want, "{committed} quanta, {living} living");
+    }
+}
+
+#[test]
+fn draws_are_made_ahead_by_workers_above_the_second(rt: HostRuntime) {
+    // The workers, the three rates, and how many workers make draws.
+    let rows: [(u32, [u32; 3], u32); 10] = [
+        (1, [10_000, 1000, 2000], 0),
+        (2, [10_000, 1000, 2000], 0),
+        (3, [10_000, 1000, 2000], 1),
+        (4, [10_000, 1000, 2000], 2),
+        (5, [10_000, 1000, 2000], 2),
+        (64, [10_000, 1000, 2000], 2),
+        (64, [0, 0, 0], 0),
+        (4, [1, 0, 0], 2),
+        (4, [0, 1, 0], 2),
+        (4, [0, 0, 1], 2),
+    ];
+    for (workers, [back_rate, copy_rate, flaw_rate], drawers) in rows {
+        let mut settings = defaults();
+        settings.back_rate = back_rate;
+        settings.copy_rate = copy_rate;
+        settings.flaw_rate = flaw_rate;
         assert_eq!(rt;
-            is_taken,
-            want,
-            "{workers} workers, {committed} quanta, {living} living, {slice}"
+            number_of_drawers(workers, &settings),
+            drawers,
+            "{workers} workers"
         );
     }
 }

@@ -68,6 +68,63 @@ fn each_group_is_handed_over_ahead_of_the_next_quantum(rt: HostRuntime) -> Resul
     Ok(())
 }
 
+// After the jobs worker 1 hands each group over by itself, beside the worker that runs the quanta.
+#[test]
+fn each_group_is_handed_over_beside_the_run(rt: HostRuntime) -> Result<(), Fail> {
+    let file = ancestor_file(rt.alloc(), "copy_rate = 150\n")?;
+    hand_over_beside(&rt, rt.alloc(), &file, 2)?;
+    hand_over_beside(&rt, rt.alloc(), &file, 3)?;
+    hand_over_beside(&rt, rt.alloc(), &file, 64)
+}
+
+fn hand_over_beside<R: Threads + Wait + Sync + Abort>(
+    rt: &R,
+    alloc: Global,
+    file: &str,
+    workers: u32,
+) -> Result<(), Fail>
+    requires { (1 ≤ workers) × (workers ≤ 64) }
+{
+    let shown = AtomicU64::new(0);
+    let (book, mut hand) = begin(alloc, file, 1100, workers, false, &shown)?;
+    let ran = run_crew(rt, alloc, book, workers, &CountGate::new(), &mut hand);
+    let Ran::Ended(book) = ran else {
+        panic!(rt; "not ended")
+    };
+    assert_eq!(rt; savings_of(alloc, &book)?, (2, 3));
+    assert_eq!(rt; (hand.done, hand.puts), (3, 3), "{workers} workers");
+    Ok(())
+}
+
+// The first genotype is saved after the jobs, when 20 creatures were born.
+#[test]
+fn a_hand_that_halts_beside_the_run_ends_it(rt: HostRuntime) -> Result<(), Fail> {
+    let file = ancestor_file(rt.alloc(), "save_at = 20\n")?;
+    halt_beside(&rt, rt.alloc(), &file, 2)?;
+    halt_beside(&rt, rt.alloc(), &file, 4)
+}
+
+fn halt_beside<R: Threads + Wait + Sync + Abort>(
+    rt: &R,
+    alloc: Global,
+    file: &str,
+    workers: u32,
+) -> Result<(), Fail>
+    requires { (1 ≤ workers) × (workers ≤ 64) }
+{
+    let shown = AtomicU64::new(0);
+    let (book, mut hand) = begin(alloc, file, 4_000_000, workers, true, &shown)?;
+    let ran = run_crew(rt, alloc, book, workers, &CountGate::new(), &mut hand);
+    let Ran::Halted(mut book) = ran else {
+        panic!(rt; "not halted")
+    };
+    let committed = book.committed();
+    assert!(rt; 256 < committed && committed < 4_000_000, "{committed}");
+    assert_eq!(rt; (hand.done, hand.halts), (0, 1));
+    assert!(rt; matches!(book.claim(alloc), Claim::Stopped));
+    Ok(())
+}
+
 #[test]
 fn a_hand_that_halts_stops_the_book(rt: HostRuntime) -> Result<(), Fail> {
     halt_at_once(&rt, rt.alloc(), 1)?;

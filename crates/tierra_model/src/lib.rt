@@ -38,7 +38,7 @@ pub use lists::{Code, EventList, FreeList, Text, Yard};
 pub use ops::Op;
 pub use parameters::Settings;
 pub use searching::{Found, Way};
-pub use setups::{Inoculum, SeedList, Setup, grow_setup};
+pub use setups::{Inoculum, SeedList, Setup, defaults, grow_setup};
 pub use views::{Now, View};
 
 /// No memory was left.

@@ -54,6 +54,34 @@ impl Model for Setup {
     ghost invariant = { λ s. IsSetup (record { settings = s.settings; creatures = s.creatures }) };
 }
 
+impl Inoculum {
+    fn copy(&self) -> Result<Inoculum, OutOfMemory>
+        ensures { IfOk result (λ i. i ≡ self.now) }
+    {
+        let items = self.code.items.clone()?;
+        Ok(Inoculum {
+            at: self.at,
+            code: Code { items },
+        })
+    }
+}
+
+impl Setup {
+    /// Another setup with the same settings and creatures.
+    pub fn copy(&self, alloc: Global) -> Result<Setup, OutOfMemory>
+        ensures { IfOk result (λ s. s ≡ self.now) }
+    {
+        let mut items = Vec::new(alloc);
+        for creature in self.creatures.items.iter() {
+            items.push(creature.copy()?)?;
+        }
+        Ok(Setup {
+            settings: self.settings,
+            creatures: SeedList { items },
+        })
+    }
+}
+
 /// The settings that hold unless others are given.
 pub fn defaults() -> Settings
     ensures { result ≡ default_settings }

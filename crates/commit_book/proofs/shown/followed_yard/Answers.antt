@@ -16,7 +16,8 @@ loop-event-init c =
     let w = c.args.world.now.world in
     let was : arc_value c.in_ok-was.field-0 ≡ yard w =
     subst (λ (o : Option (Arc Yard Global)). IfSome o (λ a. arc_value a ≡ yard w)) c.in_ok-was.was c.requires.was in
-    followed-none w c.args.events.now c.front.result.now c.next_birth-number.result c.in_ok-items.items.items c.settings-settings.ensures.sound c.requires.can c.requires.few
+    followed-none w c.args.events.now c.front.result.now c.next_birth-number.result c.in_ok-items.items.items c.settings-settings.ensures.sound c.requires.can
+    c.requires.few
     c.front.ensures c.next_birth-number.ensures (c.in_ok-items.ensures ∙ was)
 
 pub shown_after-front-requires : goal.shown_after-front-requires

@@ -9,20 +9,21 @@ use Rattle.crew.proofs.alone.run_alone.Goals as goal
 
 pub savings-smaller : goal.savings-smaller
 savings-smaller g c =
-    let w = worked c.savings.book c.in-Ok.worked 0 c.in-Ok.ensures.works.0 c.in-Ok.ensures.works.1 in
     let left : c.savings.book.committed < c.savings.book.quanta = omega (arith, c.savings-test.true, c.committed.ensures.value, c.quanta.ensures.value) in
+    let w = worked c.savings.book.quanta c.savings.book c.in-Ok.worked 0 c.in-Ok.ensures.works.0 (omega (arith, left)) c.in-Ok.ensures.works.1 in
     omega (arith, w.more left, w.quanta, left)
 
 pub savings-preserved : goal.savings-preserved
 savings-preserved g c =
     let b = c.savings.book in
     let run = c.savings.invariant in
-    let w = worked b c.in-Ok.worked 0 c.in-Ok.ensures.works.0 c.in-Ok.ensures.works.1 in
+    let some : 0 < b.quanta = omega (arith, c.savings-test.true, c.committed.ensures.value, c.quanta.ensures.value) in
+    let w = worked b.quanta b c.in-Ok.worked 0 c.in-Ok.ensures.works.0 some c.in-Ok.ensures.works.1 in
     let put = c.in-Ok-Go.ensures in
     let hand = c.hand_all.new.hand in
     let setup : g.H.Hand.setup hand ≡ b.setup = put.setup ∙ sym (ap (λ (p : SetupFields × ℕ). p.0) run.ready.run_is) in
     let quanta : g.H.Hand.quanta hand ≡ b.quanta = put.quanta ∙ sym (ap (λ (p : SetupFields × ℕ). p.1) run.ready.run_is) in
-    let some = earlier-within b.setup b.committed b.quanta (length (run_bank b.setup b.committed)) run.few (omega arith) in
+    let more = earlier-within b.setup b.committed b.quanta (length (run_bank b.setup b.committed)) run.few (omega arith) in
     let before : g.H.Hand.done c.savings.hand ≤ length (run_bank b.setup b.quanta) =
     subst (λ (p : SetupFields × ℕ). g.H.Hand.done c.savings.hand ≤ length (run_bank p.0 p.1)) (sym run.ready.run_is) run.ready.within in
     let go = c.in-Ok-Go.field-0-is in
@@ -30,7 +31,7 @@ savings-preserved g c =
     subst (λ (n : Next). OnGo n (g.H.Hand.done hand ≡ max (g.H.Hand.done c.savings.hand) (length (run_bank b.setup b.committed)))) go put.groups in
     let can : g.H.Hand.can_put hand = subst (λ (n : Next). OnGo n (g.H.Hand.can_put hand)) go put.can in
     let halts : g.H.Hand.halts hand ≡ 0 = subst (λ (n : Next). HaltsBy n (g.H.Hand.halts hand)) go put.halts in
-    let all : g.H.Hand.done hand ≤ length (run_bank b.setup b.quanta) = omega (arith, groups, some, before) in
+    let all : g.H.Hand.done hand ≤ length (run_bank b.setup b.quanta) = omega (arith, groups, more, before) in
     record {
       setup = w.setup ∙ run.setup;
       quanta = w.quanta ∙ run.quanta;

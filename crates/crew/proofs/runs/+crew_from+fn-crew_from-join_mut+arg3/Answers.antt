@@ -1,4 +1,5 @@
-use Rattle.std.proofs.Common.{rules, refl, sym, subst, arith, ◌+◌}
+use Rattle.std.proofs.Common.{rules, refl, sym, subst, arith, ◌+◌, ◌*◌}
+use Rattle.tierra_model.specs.declared.limits.TheConstants.{MOST_QUANTA}
 use Rattle.turn_lock.specs.Seat.{SeatFields}
 use Rattle.crew.specs.Works.{IsFirst, IsOther, SpeaksFrom}
 use Rattle.crew.proofs.Speaking.{first_speaks, joined_speaks, that_one}
@@ -7,7 +8,8 @@ use Rattle.crew.proofs.runs.+crew_from+fn-crew_from-join_mut+arg3.Goals as goal
 pub returns-then-caller-workers-clause-seat : goal.returns-then-caller-workers-clause-seat
 returns-then-caller-workers-clause-seat g t c =
     let first = that_one (IsFirst c.args.lock.now c.args.caller) c.args.first.now c.in-Some.seat c.requires.seat (search rules) in
-    first_speaks c.args.lock.now c.args.caller 8000004 c.in-Some.seat c.lead.result.seat (omega (arith, c.requires.callers.0)) first c.lead.ensures.worked
+    first_speaks c.args.lock.now c.args.caller (2 * MOST_QUANTA + 4) c.in-Some.seat c.lead.result.seat (omega (arith, c.requires.callers.0)) first
+    c.lead.ensures.worked
 
 pub returns-clause-seat : goal.returns-clause-seat
 returns-clause-seat g t c =
@@ -20,7 +22,8 @@ pub returns-in_default-seat_for-clause-seat : goal.returns-in_default-seat_for-c
 returns-in_default-seat_for-clause-seat g t c =
     let first = that_one (IsFirst c.args.lock.now c.args.caller) c.args.first.now c.in-Some.seat c.requires.seat (search rules) in
     let same = subst (λ (s : SeatFields). IsFirst c.args.lock.now c.args.caller s) (sym c.in_default-seat_for.ensures.refused) first in
-    first_speaks c.args.lock.now c.args.caller 8000004 c.seat_for.new.first c.lead-in_default-seat_for.result.seat (omega (arith, c.requires.callers.0)) same c.lead-in_default-seat_for.ensures.worked
+    first_speaks c.args.lock.now c.args.caller (2 * MOST_QUANTA + 4) c.seat_for.new.first c.lead-in_default-seat_for.result.seat
+    (omega (arith, c.requires.callers.0)) same c.lead-in_default-seat_for.ensures.worked
 
 pub join_mut-other-requires-after_bounds : goal.join_mut-other-requires-after_bounds
 join_mut-other-requires-after_bounds g t c κs within =

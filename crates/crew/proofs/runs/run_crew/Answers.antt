@@ -23,4 +23,4 @@ crew_from-seat-requires-clause-hand g c κs within =
     }
 
 pub returns-in-Go-clause-later : goal.returns-in-Go-clause-later
-returns-in-Go-clause-later g c = g.met.H.Hand.goes_on _ _ _ c.crew_from-seat.ensures.hand.later c.run_alone.ensures.later
+returns-in-Go-clause-later g c = g.met.H.Hand.goes_on _ _ _ c.crew_from-seat.ensures.hand.later c.run_rest.ensures.later

@@ -7,4 +7,5 @@ use Rattle.crew_tests.proofs.book.advance_once.Goals as goal
 pub returns-clause-speaks : goal.returns-clause-speaks
 returns-clause-speaks g c k speaks =
     let gave = c.give-seat.ensures in
-    still_speaks c.take-turn.result.0.seat c.give-seat.result _ k _ gave.own gave.others (subst (λ s. IsSome (own_of s k)) (sym c.take-turn.ensures.seat) speaks)
+    still_speaks c.take-turn.result.0.seat c.give-seat.result _ k _ gave.own gave.others
+    (subst (λ s. IsSome (own_of s k)) (sym c.take-turn.ensures.seat) speaks)

@@ -15,5 +15,6 @@ loop-preserved g c =
       gave.seat.lock ∙ (ap (λ s. s.lock) same ∙ inv.0),
       omega arith,
       gave.seat.last ∙ (ap (λ s. s.last_caller) same ∙ inv.2),
-      λ k speaks. still_speaks c.take-turn.result.0.seat c.give-seat.result _ k _ gave.own gave.others (subst (λ s. IsSome (own_of s k)) (sym same) (inv.3 k speaks)),
+      λ k speaks. still_speaks c.take-turn.result.0.seat c.give-seat.result _ k _ gave.own gave.others
+          (subst (λ s. IsSome (own_of s k)) (sym same) (inv.3 k speaks)),
     )

@@ -21,7 +21,8 @@ pub how_by-requires : goal.how_by-requires
 how_by-requires c =
     let i = c.self.inside in
     let line : Line = c.index-line.result.now in
-    let within : c.args.place < length i.lines.items = omega (arith, c.requires, ap length c.self.view_is, entries-length i.differences.items 0 i.lines.items) in
+    let within : c.args.place < length i.lines.items =
+    omega (arith, c.requires, ap length c.self.view_is, entries-length i.differences.items 0 i.lines.items) in
     subst (λ (l : Line). IsThere (length i.differences.items) l.way) (sym c.index-line.ensures)
     (each-at (length i.differences.items) i.lines.items c.args.place line within c.self.invariant)
 
@@ -29,7 +30,8 @@ pub returns : goal.returns
 returns c =
     let i = c.self.inside in
     let line : Line = c.index-line.result.now in
-    let within : c.args.place < length i.lines.items = omega (arith, c.requires, ap length c.self.view_is, entries-length i.differences.items 0 i.lines.items) in
+    let within : c.args.place < length i.lines.items =
+    omega (arith, c.requires, ap length c.self.view_is, entries-length i.differences.items 0 i.lines.items) in
     let number : 0 + c.args.place + 1 ≡ c.args.place + 1 = omega arith in
     let is : get_or i.lines.items c.args.place line ≡ line = sym c.index-line.ensures in
     ap (λ (es : List Entry). slice_get es c.args.place) (sym c.self.view_is)
