@@ -5,7 +5,7 @@ ghost use Rattle.std.specs.Prelude.{◌≡◌, IfOk};
 use report_text::dump;
 use std::alloc::Global;
 use std::test::Fail;
-use tierra_model::{Code, EventList, Inoculum, Now, SeedList, Settings, Setup};
+use tierra_model::{Code, EventList, Inoculum, Now, SeedList, Settings, Setup, defaults};
 use world_core::World;
 
 /// A creature in the last three of 100 cells. The last row begins at cell 96 and has four cells.
@@ -43,27 +43,14 @@ reaper 1 2
 state d024026eef163c663e2be615da3dd28bbae6e3dccfac740aa78229cce4776ce4
 ";
 
-const SETTINGS: Settings = Settings {
-    soup_size: 100,
-    slice_size: 25,
-    slice_by_size: false,
-    slice_num: 1,
-    slice_den: 4,
-    search_limit: 400,
-    min_template: 1,
-    min_cell: 12,
-    max_cell: 20000,
-    mal_mult: 3,
-    fill_percent: 80,
-    move_percent: 70,
-    save_at: 2,
-    back_rate: 0,
-    copy_rate: 0,
-    flaw_rate: 0,
-    seed: [0; 32],
-    dist_every: 0,
-    dist_percent: 10,
-};
+// The default settings, in a soup of 100 cells.
+fn settings() -> Settings
+    ensures { result.soup_size ≡ 100 }
+{
+    let mut settings = defaults();
+    settings.soup_size = 100;
+    settings
+}
 
 fn inoculum(alloc: Global, at: u32, code: &[u8]) -> Result<Inoculum, Fail>
     ensures { IfOk result (λ i. i ≡ record { at = at; code = code.now }) }
@@ -80,7 +67,7 @@ fn one_creature(alloc: Global) -> Result<Setup, Fail> {
         items: vec![in alloc; last]?,
     };
     Ok(Setup {
-        settings: SETTINGS,
+        settings: settings(),
         creatures,
     })
 }
@@ -92,7 +79,7 @@ fn two_creatures(alloc: Global) -> Result<Setup, Fail> {
         items: vec![in alloc; first, last]?,
     };
     Ok(Setup {
-        settings: SETTINGS,
+        settings: settings(),
         creatures,
     })
 }

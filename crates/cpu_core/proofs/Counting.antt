@@ -43,7 +43,8 @@ module _ (k m : ℕ) (c : Creature) (ran : c.ran ≡ k) (moved : c.moved + 1 ≤
   found_counts go found.NoMatch h = (ran, omega arith, tt)
   found_counts go (found.At p) h = ((h p).0, (h p).1, tt)
 
-  search_outcome_counts : (s : Settings) (ip : ℕ) (way : Way) (go : ℕ → Creature) → ((p : ℕ) → ((go p).ran ≡ k) × ((go p).moved ≤ m)) → Always (Counts k m c) (search_outcome s ip way c go)
+  search_outcome_counts : (s : Settings) (ip : ℕ) (way : Way) (go : ℕ → Creature) → ((p : ℕ) → ((go p).ran ≡ k) × ((go p).moved ≤ m))
+      → Always (Counts k m c) (search_outcome s ip way c go)
   search_outcome_counts s ip way go h = always-any (Counts k m c) (search_by s ip way) (to_found c go) (λ f. found_counts go f h)
 
   moved_by : (b : Bool) → (if b then c.moved + 1 else c.moved) ≤ m
@@ -78,4 +79,5 @@ module _ (k m : ℕ) (c : Creature) (ran : c.ran ≡ k) (moved : c.moved + 1 ≤
 pub step_counts : (s : Settings) (draw : ℕ → ℕ) (i : ℕ) (c : Creature) → Always (Counts (c.ran + 1) (c.moved + 1) c) (step s draw i c)
 unfolding step
 step_counts s draw i c =
-    λ v below. execute_counts (c.ran + 1) (c.moved + 1) (start_record s c) refl (omega arith) s (flaw s.flaw_rate draw i) (copy_bit s.copy_rate draw i) c.ip (op_of v)
+    λ v below. execute_counts (c.ran + 1) (c.moved + 1) (start_record s c) refl (omega arith) s (flaw s.flaw_rate draw i)
+    (copy_bit s.copy_rate draw i) c.ip (op_of v)

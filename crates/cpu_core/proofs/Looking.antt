@@ -96,4 +96,5 @@ module _ {S : Type 0} (cells : S → ℕ → ℕ) (looked : S → ℕ → S) whe
       → ((p : ℕ) → p < n → cells v p < 32) → LooksBelow n t → Always P t → P (pass cells looked t v).1
   pass-always P n (Answer a) v keeps codes h k = k
   pass-always P n (LookAt p next) v keeps codes h k =
-      pass-always P n (next (cells v p)) (looked v p) keeps (λ q below. subst (λ x. x < 32) (sym (keeps v p q)) (codes q below)) (h.1 (cells v p)) (k (cells v p) (codes p h.0))
+      pass-always P n (next (cells v p)) (looked v p) keeps (λ q below. subst (λ x. x < 32) (sym (keeps v p q)) (codes q below)) (h.1 (cells v p))
+      (k (cells v p) (codes p h.0))

@@ -26,7 +26,8 @@ module _ {S : Type 0} (size_of : S → ℕ) (cells : S → ℕ → ℕ) (writabl
     (look_cells : (v : S) (p q : ℕ) → cells (looked v p) q ≡ cells v q)
     (look_writable : (v : S) (p q : ℕ) → writable (looked v p) q ≡ writable v q)
     (write_size : (v : S) (p x : ℕ) → p < size_of v → writable v p ≡ true → x < 32 → size_of (written v p x) ≡ size_of v)
-    (write_cell : (v : S) (p x q : ℕ) → p < size_of v → writable v p ≡ true → x < 32 → q < size_of v → cells (written v p x) q ≡ (if q == p then x else cells v q))
+    (write_cell : (v : S) (p x q : ℕ) → p < size_of v → writable v p ≡ true → x < 32 → q < size_of v
+    → cells (written v p x) q ≡ (if q == p then x else cells v q))
     (write_writable : (v : S) (p x q : ℕ) → p < size_of v → writable v p ≡ true → x < 32 → writable (written v p x) q ≡ writable v q) where
   abbrev Ready : Settings → Creature → S → Type 0
   Ready = CanExecute size_of cells writable
@@ -39,13 +40,15 @@ module _ {S : Type 0} (size_of : S → ℕ) (cells : S → ℕ → ℕ) (writabl
       let may : writable v at ≡ true = r.own at h ∙ own in
       record {
         size = write_size v at value here may k ∙ r.size;
-        codes = λ p below. subst (λ x. x < 32) (sym (write_cell v at value p here may k (omega (arith, r.size)))) (below_either (p == at) value (cells v p) 32 k (r.codes p below));
+        codes = λ p below. subst (λ x. x < 32) (sym (write_cell v at value p here may k (omega (arith, r.size))))
+            (below_either (p == at) value (cells v p) 32 k (r.codes p below));
         own = λ p below. write_writable v at value p here may k ∙ r.own p below;
         ip = r.ip;
         sp = r.sp;
       }
 
-  after_act-ready : (s : Settings) (c : Creature) (v : S) (a : Act) → CanDo s c a → WritesOwn c a → Ready s c v → Ready s (creature_after a c) (view_after written a v)
+  after_act-ready : (s : Settings) (c : Creature) (v : S) (a : Act) → CanDo s c a → WritesOwn c a → Ready s c v
+      → Ready s (creature_after a c) (view_after written a v)
   after_act-ready s c v act.Plain can own r = r
   after_act-ready s c v (act.Wrote at value) can own r = wrote_ready s c v at value can.0 can.1 own r
   after_act-ready s c v act.Erred can own r = record { size = r.size; codes = r.codes; own = r.own; ip = r.ip; sp = r.sp }
@@ -83,7 +86,8 @@ module _ {S : Type 0} (size_of : S → ℕ) (cells : S → ℕ → ℕ) (writabl
     always P h = pass-always cells looked P s.soup_size (step drawn draw i c) v look_cells ready.codes (step_below drawn draw i c ready.ip) h
 
     keeps : Keeps drawn c taken.1
-    keeps = always (Keeps drawn c) (step_keeps drawn draw i c c (record { id = refl; own = refl; daughter = refl; errors = refl; genotype = refl; bred = refl }))
+    keeps = always (Keeps drawn c)
+        (step_keeps drawn draw i c c (record { id = refl; own = refl; daughter = refl; errors = refl; genotype = refl; bred = refl }))
 
     steps : Steps s.soup_size (c.moved + c.ran + 1) taken.1
     steps = always (Steps s.soup_size (c.moved + c.ran + 1)) (step_steps drawn draw i (c.moved + c.ran) c (ready.ip, ready.sp, omega arith, omega arith))
@@ -95,7 +99,8 @@ module _ {S : Type 0} (size_of : S → ℕ) (cells : S → ℕ → ℕ) (writabl
     taken_ready =
         record {
           size = pass-keeps cells looked size_of look_size (step drawn draw i c) v ∙ ready.size;
-          codes = λ p below. subst (λ x. x < 32) (sym (pass-keeps cells looked (λ w. cells w p) (λ w q. look_cells w q p) (step drawn draw i c) v)) (ready.codes p below);
+          codes = λ p below. subst (λ x. x < 32) (sym (pass-keeps cells looked (λ w. cells w p) (λ w q. look_cells w q p) (step drawn draw i c) v))
+              (ready.codes p below);
           own = λ p below.
               pass-keeps cells looked (λ w. writable w p) (λ w q. look_writable w q p) (step drawn draw i c) v
               ∙ ready.own p below

@@ -15,7 +15,8 @@ use Rattle.cpu_core.specs.Draws.{copy_bit_of, flaw_of, with_rates_of}
 use Rattle.cpu_core.specs.Executing.{Executes, after_act, start_record}
 
 -- The rates count only by what is drawn.
-execute-with_rates_of : (d : DrawFields) (s : Settings) (f : ℤ) (bit : Option ℕ) (ip : ℕ) (c : Creature) (op : Op) → execute (with_rates_of d s) f bit ip c op ≡ execute s f bit ip c op
+execute-with_rates_of : (d : DrawFields) (s : Settings) (f : ℤ) (bit : Option ℕ) (ip : ℕ) (c : Creature) (op : Op)
+    → execute (with_rates_of d s) f bit ip c op ≡ execute s f bit ip c op
 execute-with_rates_of d s f bit ip c Nop0 = refl
 execute-with_rates_of d s f bit ip c _ = refl
 

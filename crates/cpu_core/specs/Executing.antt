@@ -38,12 +38,14 @@ after_act written r =
     (view_after written a v, (creature_after a c, a))
 
 -- From view v, once the looks and the act that they lead to are done, the view is u, the record is c, and the act is a.
-abbrev pub Executes : {S : Type 0} → (S → ℕ → ℕ) → (S → ℕ → S) → (S → ℕ → ℕ → S) → Look Outcome → S → S → Creature → Act → Type 0
+abbrev pub Executes : {S : Type 0} → (S → ℕ → ℕ) → (S → ℕ → S) → (S → ℕ → ℕ → S) → Look Outcome → S → S → Creature
+    → Act → Type 0
 Executes cells looked written t v u c a = after_act written (pass cells looked t v) ≡ (u, (c, a))
 
 -- A step can be executed: the view is of the whole soup, whose cells hold codes of instructions, and may write the
 -- creature's own cells alone; ip is in the soup, and sp on the stack.
-pub record CanExecute {S : Type 0} (size_of : S → ℕ) (cells : S → ℕ → ℕ) (writable : S → ℕ → Bool) (s : Settings) (c : Creature) (v : S) : Type 0 where
+pub record CanExecute {S : Type 0} (size_of : S → ℕ) (cells : S → ℕ → ℕ) (writable : S → ℕ → Bool) (s : Settings)
+    (c : Creature) (v : S) : Type 0 where
   pub size : size_of v ≡ s.soup_size
   pub codes : (p : ℕ) → p < s.soup_size → cells v p < 32
   pub own : (p : ℕ) → p < s.soup_size → writable v p ≡ (is_in c.own p || is_in_daughter c.daughter p)

@@ -38,34 +38,11 @@ pub fn may_divide(daughter: Option<Block>, moved: u64, settings: &Settings) -> b
 #[cfg(test)]
 mod tests {
     use super::*;
-
-    fn settings() -> Settings {
-        Settings {
-            soup_size: 60000,
-            slice_size: 25,
-            slice_by_size: false,
-            slice_num: 1,
-            slice_den: 4,
-            search_limit: 400,
-            min_template: 1,
-            min_cell: 12,
-            max_cell: 20000,
-            mal_mult: 3,
-            fill_percent: 80,
-            move_percent: 70,
-            save_at: 2,
-            back_rate: 0,
-            copy_rate: 0,
-            flaw_rate: 0,
-            seed: [0; 32],
-            dist_every: 0,
-            dist_percent: 10,
-        }
-    }
+    use tierra_model::defaults;
 
     #[test]
     fn mal_gives_what_lies_in_bounds(rt: HostRuntime) {
-        let settings = settings();
+        let settings = defaults();
         for (cx, size, want) in [
             (11, 80, None),
             (12, 80, Some(12)),
@@ -94,7 +71,7 @@ mod tests {
 
     #[test]
     fn divide_wants_enough_copies(rt: HostRuntime) {
-        let settings = settings();
+        let settings = defaults();
         let daughter = Some(Block { at: 100, size: 80 });
         let largest = Some(Block {
             at: 0,

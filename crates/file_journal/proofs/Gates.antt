@@ -1,5 +1,6 @@
 -- What a crash leaves in each of the two steps of an append.
-use Rattle.std.proofs.Common.{◌≡◌, ◌≢◌, ◌∙◌, ◌⊎◌, inl, inr, ⊎_elim, sym, ap, subst, ℕ, ◌+◌, ◌≤◌, arith, List, [], ◌∷◌, ◌++◌, length, get_or, take, drop, append_assoc, length-append}
+use Rattle.std.proofs.Common.{◌≡◌, ◌≢◌, ◌∙◌, ◌⊎◌, inl, inr, ⊎_elim, sym, ap, subst, ℕ, ◌+◌, ◌≤◌, arith, List, [], ◌∷◌, ◌++◌, length, get_or, take, drop}
+use Rattle.std.proofs.Common.{append_assoc, length-append}
 use Rattle.std.proofs.lemmas.Bool.{cases_eq}
 use Rattle.std.proofs.lemmas.List.{take_at, length-take}
 use Rattle.desk_io.specs.Desk.{spliced, Torn}
@@ -83,7 +84,8 @@ pub gate_torn : (at : ℕ) (piece file image : List ℕ) → IsStaged at piece f
 gate_torn at piece file image s torn =
     let front = take at file in
     let behind = piece ++ 0 ∷ s.rest in
-    let here = subst (λ (k : ℕ). Torn k 1 (front ++ s.gate ∷ behind) image) (sym (staged_len at piece file s)) (subst (λ (f : List ℕ). Torn at 1 f image) s.text torn) in
+    let here = subst (λ (k : ℕ). Torn k 1 (front ++ s.gate ∷ behind) image) (sym (staged_len at piece file s))
+    (subst (λ (f : List ℕ). Torn at 1 f image) s.text torn) in
     let gate = get_or image (length front) 0 in
     let whole = torn_byte front behind image s.gate here in
     ⊎_elim

@@ -1,5 +1,6 @@
 -- What several calls of a desk leave, where the disk tells its content.
-use Rattle.std.specs.Prelude.{◌≡◌, ℕ, ◌<◌, ◌≤◌, ◌^◌, List, length, Option, Some, None, IfSome, IsSomeAnd, Result, Ok, Err, vec_len}
+use Rattle.std.specs.Prelude.{◌≡◌, ℕ, ◌<◌, ◌≤◌, ◌^◌, List, length, Option, Some, None, IfSome, IsSomeAnd, Result, Ok}
+use Rattle.std.specs.Prelude.{Err, vec_len}
 use Rattle.std.specs.Global.{Vec}
 use Rattle.desk_io.specs.Desk.{DeskState, HasNoFault, HasDiskFault, IsSettled, NoMore, Written}
 use Rattle.file_journal.specs.declared.faults.FileFault.{FileFault}

@@ -14,7 +14,8 @@ effort_text (Some e) = decimal e.ran ++ codes " " ++ decimal e.moved
 effort_text None = codes "none"
 
 abbrev pub probe_line : Name → Efforts → List ℕ
-probe_line name e = name_text name ++ codes " first " ++ effort_text e.first ++ codes " second " ++ effort_text e.second ++ codes "\n"
+probe_line name e =
+    name_text name ++ codes " first " ++ effort_text e.first ++ codes " second " ++ effort_text e.second ++ codes "\n"
 
 -- a line for each saved genotype, in order
 abbrev pub probe_text : List GroupFields → ℕ → List ℕ

@@ -1,5 +1,6 @@
 -- The genotypes after the first birth of one.
-use Rattle.std.proofs.Common.{◌≡◌, ℕ, zero, suc, ◌+◌, ◌<◌, ◌≤◌, Bool, true, false, cond, List, [], ◌∷◌, ◌++◌, refl, sym, ◌∙◌, ap, subst, arith, slice_get, length, length-append, inl, inr}
+use Rattle.std.proofs.Common.{◌≡◌, ℕ, zero, suc, ◌+◌, ◌<◌, ◌≤◌, Bool, true, false, cond, List, [], ◌∷◌, ◌++◌, refl, sym, ◌∙◌, ap, subst, arith, slice_get}
+use Rattle.std.proofs.Common.{length, length-append, inl, inr}
 use Rattle.std.specs.Prelude.{All, IfSome, None, Option, Some, option_map, if◌then◌else◌, ◌==◌, ◌⊎◌, nat_lt, not}
 use Rattle.std.specs.List.{position, position_or_len}
 use Rattle.std.specs.Map.{keys_of, values_of}
@@ -165,7 +166,8 @@ total_lt (x ∷ xs) (suc i) n d at h = total_lt xs i n d at h
 pub total_of_code : (code : List ℕ) (gs : List Genotype) (n : ℕ) → All (λ g. g.total < n) gs
     → IfSome (genotype_number code gs) (λ k. (genotype_at gs k).total < n)
 total_of_code code [] n h = tt
-total_of_code code (g ∷ gs) n h = go (bytes_eq g.code code) (genotype_number code gs) (total_of_code code gs n (All-tail (λ (g : Genotype). g.total < n) g gs h))
+total_of_code code (g ∷ gs) n h = go (bytes_eq g.code code) (genotype_number code gs)
+    (total_of_code code gs n (All-tail (λ (g : Genotype). g.total < n) g gs h))
   where
     go : (b : Bool) (o : Option ℕ) → IfSome o (λ k. (genotype_at gs k).total < n)
         → IfSome (if b then Some 0 else option_map suc o) (λ k. (genotype_at (g ∷ gs) k).total < n)

@@ -62,7 +62,8 @@ unfolding name_in name_text
 name_in-is_text text = go (is_size (digits_of text)) (are_letters (rest_of text)) refl refl
   where
     go : (b d : Bool) → is_size (digits_of text) ≡ b → are_letters (rest_of text) ≡ d
-        → IfOk (if not b then Err BadSize else if not d then Err BadLetters else Ok (record { size = value_in 10 48 (digits_of text); rank = rank_of (rest_of text) }))
+        → IfOk (if not b then Err BadSize else if not d then Err BadLetters
+        else Ok (record { size = value_in 10 48 (digits_of text); rank = rank_of (rest_of text) }))
         (λ name. IsName name × (text ≡ name_text name))
     go false d e f = tt
     go true false e f = tt

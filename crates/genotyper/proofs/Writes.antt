@@ -70,7 +70,8 @@ ranked-written es count i d w at same r =
       ranks = λ k code v h.
           let (u, was, rank) = written_at es i d w at same k code v h in
           rank ∙ r.ranks k code u was ∙ sym (number_before-written es i w (length code) k);
-      counts = λ size. r.counts size ∙ sym (number_before-written es i w size (length es)) ∙ ap (number_before size (genotypes_of (set_value_at es i w))) (sym (length-set_value_at es i w));
+      counts = λ size. r.counts size ∙ sym (number_before-written es i w size (length es)) ∙ ap (number_before size (genotypes_of (set_value_at es i w)))
+          (sym (length-set_value_at es i w));
     }
 
 pub ruleset written = (genotypes-with_effort, ranked-written)

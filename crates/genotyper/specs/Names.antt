@@ -2,7 +2,9 @@
 use Rattle.std.specs.Char.{is_ascii_digit, is_ascii_lowercase}
 use Rattle.std.specs.List.{list_all, take_while}
 use Rattle.std.specs.Fmt.{decimal}
-use Rattle.std.specs.Prelude.{Bool, Err, List, Ok, Result, [], drop, if◌then◌else◌, length, nat_le, nat_lt, not, replicate, slice_index, suc, true, false, zero, ℕ, ◌%◌, ◌&&◌, ◌*◌, ◌++◌, ◌+◌, ◌-◌, ◌/◌, ◌==◌, ◌^◌, ◌||◌, ◌∷◌}
+use Rattle.std.specs.Prelude.{Bool, Err, List, Ok, Result, [], drop, if◌then◌else◌, length, nat_le, nat_lt, not}
+use Rattle.std.specs.Prelude.{replicate, slice_index, suc, true, false, zero, ℕ, ◌%◌, ◌&&◌, ◌*◌, ◌++◌, ◌+◌, ◌-◌, ◌/◌}
+use Rattle.std.specs.Prelude.{◌==◌, ◌^◌, ◌||◌, ◌∷◌}
 use Rattle.tierra_model.specs.declared.limits.TheConstants.{COUNT_END, MOST_SIZE}
 use Rattle.tierra_model.specs.declared.genebank.Name.{Name}
 use Rattle.genotyper.specs.declared.names.NameFault.{NameFault}

@@ -2,7 +2,7 @@
 
 use mutation_streams::{Block, Draws, Entry, NoTape, Tape};
 use std::alloc::Global;
-use tierra_model::{OutOfMemory, Settings};
+use tierra_model::{OutOfMemory, Settings, defaults};
 
 const ZEROS: [u8; 32] = [0; 32];
 
@@ -63,27 +63,12 @@ const ROWS: [Row; 42] = [
 ];
 
 fn settings(seed: [u8; 32], rate: u32) -> Settings {
-    Settings {
-        soup_size: 60000,
-        slice_size: 25,
-        slice_by_size: false,
-        slice_num: 1,
-        slice_den: 4,
-        search_limit: 400,
-        min_template: 1,
-        min_cell: 12,
-        max_cell: 20000,
-        mal_mult: 3,
-        fill_percent: 80,
-        move_percent: 70,
-        save_at: 2,
-        back_rate: rate,
-        copy_rate: rate,
-        flaw_rate: rate,
-        seed,
-        dist_every: 0,
-        dist_percent: 10,
-    }
+    let mut settings = defaults();
+    settings.back_rate = rate;
+    settings.copy_rate = rate;
+    settings.flaw_rate = rate;
+    settings.seed = seed;
+    settings
 }
 
 /// A flip in the soup, a flaw, and a flip in a copy.

@@ -11,7 +11,7 @@ use std::marker::Brand;
 use std::process::Abort;
 use std::sync::ledger::{Blank, Ledger};
 use step_count::Steps;
-use tierra_model::{Block, Creature, Settings, View};
+use tierra_model::{Block, Creature, Settings, View, defaults};
 
 /// No other code: the soup holds nop_0 there already.
 pub const NONE: (usize, u8) = (50, 0);
@@ -51,27 +51,13 @@ pub fn newborn() -> Creature
 fn settings(flaw_rate: u32, copy_rate: u32) -> Settings
     ensures { result.soup_size ≡ 100 }
 {
-    Settings {
-        soup_size: 100,
-        slice_size: 25,
-        slice_by_size: false,
-        slice_num: 1,
-        slice_den: 1,
-        search_limit: 50,
-        min_template: 1,
-        min_cell: 12,
-        max_cell: 25,
-        mal_mult: 3,
-        fill_percent: 80,
-        move_percent: 70,
-        save_at: 2,
-        back_rate: 0,
-        copy_rate,
-        flaw_rate,
-        seed: [0; 32],
-        dist_every: 0,
-        dist_percent: 10,
-    }
+    let mut settings = defaults();
+    settings.soup_size = 100;
+    settings.search_limit = 50;
+    settings.max_cell = 25;
+    settings.copy_rate = copy_rate;
+    settings.flaw_rate = flaw_rate;
+    settings
 }
 
 /// Lays the codes from the creature's `ip` on and one code at another place, and executes this many instructions. The

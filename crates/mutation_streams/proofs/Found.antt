@@ -22,7 +22,8 @@ module _ (d : DrawFields) (i : ℕ) where
   skips true c rest other = ap (λ (t : Bool). cond t (Some c) (found_in rest)) other
   skips false c rest other = refl
 
-  finds : (b : Bool) (c : Chance) (rest : List Chance) → (c.instruction == i) ≡ true → found_in rest ≡ None → found_in (cond b (c ∷ rest) rest) ≡ cond b (Some c) None
+  finds : (b : Bool) (c : Chance) (rest : List Chance) → (c.instruction == i) ≡ true → found_in rest ≡ None
+      → found_in (cond b (c ∷ rest) rest) ≡ cond b (Some c) None
   finds true c rest here none = ap (λ (t : Bool). cond t (Some c) (found_in rest)) here
   finds false c rest here none = none
 

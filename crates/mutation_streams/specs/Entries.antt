@@ -2,7 +2,8 @@
 use Rattle.std.specs.List.{range_with_len}
 use Rattle.std.specs.Ordering.{int_eq}
 use Rattle.std.specs.declared.alloc.Global.{Global}
-use Rattle.std.specs.Prelude.{Bool, Box, List, None, Option, Some, [], filter, find, is_some, length, map, not, pos, slice_index_or, ℕ, ℤ, ◌+◌, ◌<◌, ◌==◌, ◌^◌, ◌≡◌, ◌≤◌, ◌||◌}
+use Rattle.std.specs.Prelude.{Bool, Box, List, None, Option, Some, [], filter, find, is_some, length, map, not, pos}
+use Rattle.std.specs.Prelude.{slice_index_or, ℕ, ℤ, ◌+◌, ◌<◌, ◌==◌, ◌^◌, ◌≡◌, ◌≤◌, ◌||◌}
 use Rattle.tierra_model.specs.declared.parameters.Settings.{Settings}
 use Rattle.tierra_model.specs.Draw.{back_flip, copy_bit, flaw, word}
 use Rattle.mutation_streams.specs.declared.entry.Chance.{Chance}
@@ -66,4 +67,5 @@ pub record IsBlock (next : DrawFields) (begin reach : ℕ) (entries : List Entry
   pub begun : begin ≤ next.quantum
   pub within : next.quantum ≤ begin + length entries
   pub few : begin + length entries < 2 ^ 64
-  pub each : (k : ℕ) (e : EntryFields) → k < length entries → next.quantum ≤ begin + k → slice_index_or entries k e ≡ entry_of (record next { quantum = begin + k }) reach
+  pub each : (k : ℕ) (e : EntryFields) → k < length entries → next.quantum ≤ begin + k
+      → slice_index_or entries k e ≡ entry_of (record next { quantum = begin + k }) reach

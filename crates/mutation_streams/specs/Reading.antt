@@ -16,7 +16,8 @@ first_words key stream =
 -- four words of the stream, from word n on
 abbrev pub words_at : List ℕ → ℕ → ℕ → List ℕ
 words_at key stream n =
-    word_at 4 key stream n ∷ word_at 4 key stream (n + 1) ∷ word_at 4 key stream (n + 2) ∷ word_at 4 key stream (n + 3) ∷ []
+    word_at 4 key stream n ∷ word_at 4 key stream (n + 1) ∷ word_at 4 key stream (n + 2) ∷ word_at 4 key stream (n + 3)
+    ∷ []
 
 -- the words of instruction i: two that decide on its flaw, and two on a flip in its copy
 abbrev pub instruction_words : List ℕ → ℕ → ℕ → List ℕ

@@ -37,7 +37,8 @@ filler-lies : (n : ℕ) (cs : List Creature) → All (IsPlaced n) cs → All (Li
 filler-lies n [] h = All-nil (Lies n)
 filler-lies n (c ∷ cs) h =
     let own = (All-head (IsPlaced n) c cs h).own in
-    All-cons (Lies n) (filler c) (map filler cs) (let lies : c.own.at + length (replicate {A = ℕ} c.own.size 0) ≤ n = omega (arith, own.2, filled c.own.size) in lies)
+    All-cons (Lies n) (filler c) (map filler cs)
+    (let lies : c.own.at + length (replicate {A = ℕ} c.own.size 0) ≤ n = omega (arith, own.2, filled c.own.size) in lies)
     (filler-lies n cs (All-tail (IsPlaced n) c cs h))
 
 filler-some : (n : ℕ) (cs : List Creature) → All (IsPlaced n) cs → length cs ≤ sum_of (λ c. length c.code) (map filler cs)
@@ -49,7 +50,8 @@ filler-some n (c ∷ cs) h =
 pub living_few : (w : World) → IsSound w → length w.living ≤ w.settings.soup_size
 living_few w s =
     let n : ℕ = w.settings.soup_size in
-    let fit = sizes_fit n (map filler w.living) (λ p. (let a = filler-apart p w.living in let b = s.apart p in omega arith)) (filler-lies n w.living s.placed) in
+    let fit = sizes_fit n (map filler w.living) (λ p. (let a = filler-apart p w.living in let b = s.apart p in omega arith))
+    (filler-lies n w.living s.placed) in
     omega (arith, fit, filler-some n w.living s.placed)
 
 pub yard_few : (w : World) → IsSound w → length (yard w) < 2 ^ 30

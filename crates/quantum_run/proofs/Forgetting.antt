@@ -1,5 +1,6 @@
 -- Marks are let go, one after another, until no cell is known.
-use Rattle.std.proofs.Common.{◌≡◌, ℕ, zero, suc, ◌+◌, ◌<◌, ◌≤◌, Bool, true, false, List, [], ◌∷◌, refl, sym, ◌∙◌, ap, subst, arith, length, inl, inr, add-one, drop, get_or, get_or-set_other, length-set}
+use Rattle.std.proofs.Common.{◌≡◌, ℕ, zero, suc, ◌+◌, ◌<◌, ◌≤◌, Bool, true, false, List, [], ◌∷◌, refl, sym, ◌∙◌, ap, subst, arith, length, inl, inr, add-one}
+use Rattle.std.proofs.Common.{drop, get_or, get_or-set_other, length-set}
 use Rattle.std.specs.Prelude.{◌==◌, ◌||◌, slice_index_or, slice_set}
 use Rattle.std.specs.List.{list_any}
 use Rattle.std.proofs.Math.Seq.{drop-cons}
@@ -68,7 +69,8 @@ pub forget-write : (events : List Event) (k at value : ℕ) (d : Event) (ms : Li
 forget-write events k at value d ms within write h =
     let rest : List Event = drop (suc k) events in
     let split : drop k events ≡ event.Write at value ∷ rest = drop-cons events k d within ∙ ap (λ (x : Event). x ∷ rest) write in
-    let known : KnownAre (λ p. list_any (writes p) (event.Write at value ∷ rest)) ms = subst (λ (l : List Event). KnownAre (λ p. list_any (writes p) l) ms) split h in
+    let known : KnownAre (λ p. list_any (writes p) (event.Write at value ∷ rest)) ms =
+    subst (λ (l : List Event). KnownAre (λ p. list_any (writes p) l) ms) split h in
     subst (λ (n : ℕ). KnownAre (λ p. list_any (writes p) (drop n events)) (slice_set ms at no_mark)) (sym (add-one k))
     (one-less (λ p. list_any (writes p) (event.Write at value ∷ rest)) (λ p. list_any (writes p) rest) at ms known
     (λ p here apart. either-last (at == p) (list_any (writes p) rest) here (other p at apart)))
@@ -88,20 +90,23 @@ pub forget-none : (events : List Event) (k : ℕ) (d : Event) (ms : List ℕ) �
 forget-none events k d ms within none h =
     let rest : List Event = drop (suc k) events in
     let e : Event = get_or events k d in
-    let known : KnownAre (λ p. list_any (writes p) (e ∷ rest)) ms = subst (λ (l : List Event). KnownAre (λ p. list_any (writes p) l) ms) (drop-cons events k d within) h in
+    let known : KnownAre (λ p. list_any (writes p) (e ∷ rest)) ms =
+    subst (λ (l : List Event). KnownAre (λ p. list_any (writes p) l) ms) (drop-cons events k d within) h in
     subst (λ (n : ℕ). KnownAre (λ p. list_any (writes p) (drop n events)) ms) (sym (add-one k))
     (λ p below here. either-last (writes p e) (list_any (writes p) rest) (known p below here) (no-write e p none))
 
 -- in the end no cell is known
 all-forgotten : (these : ℕ → Bool) (ms : List ℕ) → ((p : ℕ) → these p ≡ false) → KnownAre these ms → Each IsUnknown ms
 all-forgotten these [] none h = tt
-all-forgotten these (m ∷ ms) none h = (first (is_code m) refl, all-forgotten (λ p. these (suc p)) ms (λ p. none (suc p)) (λ p below here. h (suc p) (omega (arith, below)) here))
+all-forgotten these (m ∷ ms) none h =
+    (first (is_code m) refl, all-forgotten (λ p. these (suc p)) ms (λ p. none (suc p)) (λ p below here. h (suc p) (omega (arith, below)) here))
   where
     first : (b : Bool) → is_code m ≡ b → is_code m ≡ false
     first true known = absurd (let yes : these 0 ≡ true = h 0 (omega arith) known in let no : these 0 ≡ false = none 0 in let n : ⊥ = cc in n)
     first false known = known
 
-pub events-forgotten : (events : List Event) (k : ℕ) (ms : List ℕ) → length events ≤ k → KnownAre (λ p. list_any (writes p) (drop k events)) ms → Each IsUnknown ms
+pub events-forgotten : (events : List Event) (k : ℕ) (ms : List ℕ) → length events ≤ k → KnownAre (λ p. list_any (writes p) (drop k events)) ms
+    → Each IsUnknown ms
 events-forgotten events k ms past h =
     all-forgotten (λ p. list_any (writes p) (drop k events)) ms (λ p. ap (list_any (writes p)) (drop-past events k past)) h
 

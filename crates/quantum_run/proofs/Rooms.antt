@@ -11,7 +11,8 @@ use Rattle.std.proofs.lemmas.Bool.Decides.{nat_tests}
 use Rattle.tierra_model.specs.declared.parameters.Settings.{Settings}
 use Rattle.tierra_model.specs.Room.{filled, first_fit, room_for}
 
-pub room_is : (s : Settings) (owned : ℕ → Bool) (size n : ℕ) → n ≡ s.soup_size → (filled n owned + size) * 100 ≤ s.fill_percent * s.soup_size → first_fit n owned size ≡ room_for s owned size
+pub room_is : (s : Settings) (owned : ℕ → Bool) (size n : ℕ) → n ≡ s.soup_size → (filled n owned + size) * 100 ≤ s.fill_percent * s.soup_size
+    → first_fit n owned size ≡ room_for s owned size
 room_is s owned size n e h =
     let here : (filled s.soup_size owned + size) * 100 ≤ s.fill_percent * s.soup_size = rw e at h in
     let fits : nat_le ((filled s.soup_size owned + size) * 100) (s.fill_percent * s.soup_size) ≡ true = grind (arith, nat_tests) in
@@ -24,7 +25,8 @@ pub runs-again : (n : ℕ) (t : ℕ → Bool) (free : List Block) → free ≡ r
 runs-again n t free is =
     subst (λ (l : List Block). l ≡ runs_of n (λ p. is_in_some l p)) (sym is) (sym (runs_of-alike n (λ p. is_in_some (runs_of n t) p) t (runs_of_in n t)))
 
-pub runs-both : (n : ℕ) (s t u : ℕ → Bool) (free : List Block) → free ≡ runs_of n (λ p. s p || t p) → runs_of n (λ p. is_in_some free p || u p) ≡ runs_of n (λ p. s p || (t p || u p))
+pub runs-both : (n : ℕ) (s t u : ℕ → Bool) (free : List Block) → free ≡ runs_of n (λ p. s p || t p)
+    → runs_of n (λ p. is_in_some free p || u p) ≡ runs_of n (λ p. s p || (t p || u p))
 runs-both n s t u free is =
     ap (λ (l : List Block). runs_of n (λ p. is_in_some l p || u p)) is
     ∙ runs_of-alike n (λ p. is_in_some (runs_of n (λ q. s q || t q)) p || u p) (λ p. s p || (t p || u p))

@@ -13,7 +13,8 @@ use Rattle.quantum_run.specs.declared.outcome.Outcome.{Outcome}
 use Rattle.quantum_run.specs.OnScene.{IsCellOf}
 use Rattle.quantum_run.specs.Seen.{HasNoList}
 
--- the quantum of the scene leaves this outcome, in which no list is noted yet, and every cell that it read is in the soup
+-- the quantum of the scene leaves this outcome, in which no list is noted yet, and every cell that it read is in the
+-- soup
 pub record IsOutcome (scene : Scene) (o : Outcome) : Type 0 where
   pub none : HasNoList o.reads.reads
   pub cells : o.reads.reads.cells ≡ (run_in_scene scene).cells
@@ -30,7 +31,11 @@ finding_by settings quantum before free yard o =
       settings = settings;
       quantum = quantum;
       before = before;
-      reads = record { cells = o.reads.reads.cells; free = some_if o.free_noted free; yard = some_if o.yard_noted yard };
+      reads = record {
+        cells = o.reads.reads.cells;
+        free = some_if o.free_noted free;
+        yard = some_if o.yard_noted yard;
+      };
       events = o.events.items;
       after = o.after;
     }

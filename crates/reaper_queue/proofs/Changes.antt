@@ -1,5 +1,6 @@
 -- What a queue becomes by an error, by a good move and by a death of the creature at a place.
-use Rattle.std.proofs.Common.{◌≡◌, ℕ, zero, suc, ◌+◌, ◌<◌, ◌≤◌, List, [], ◌∷◌, length, get_or, set, refl, ap, sym, ◌∙◌, arith, add-one, subst, remove, Bool, true, false, cond}
+use Rattle.std.proofs.Common.{◌≡◌, ℕ, zero, suc, ◌+◌, ◌<◌, ◌≤◌, List, [], ◌∷◌, length, get_or, set, refl, ap, sym, ◌∙◌, arith, add-one, subst, remove, Bool}
+use Rattle.std.proofs.Common.{true, false, cond}
 use Rattle.std.proofs.lemmas.Bool.{lt-ltb, le-ltb}
 use Rattle.std.proofs.lemmas.List.{get_or_read, length-map}
 use Rattle.tierra_model.specs.Counting.{times_in}

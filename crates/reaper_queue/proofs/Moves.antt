@@ -33,7 +33,8 @@ module _ {X : Type 0} (m : X → Bool) (e : X → ℕ) where
   error_move-below k d (x ∷ []) h = absurd h.1
   error_move-below zero d (x ∷ y ∷ rest) h = rw h.1.0 refl
   error_move-below (suc k) d (x ∷ y ∷ rest) h =
-      rw h.1.0 (ap (λ (l : List X). x ∷ l) (error_move-below k d (y ∷ rest) h.1) ∙ pushed x (y ∷ rest) k d (only_within m (suc k) (y ∷ rest) h.1) (nat_lt (e (get_or (y ∷ rest) (suc k) d)) (e (get_or (y ∷ rest) k d))))
+      rw h.1.0 (ap (λ (l : List X). x ∷ l) (error_move-below k d (y ∷ rest) h.1)
+      ∙ pushed x (y ∷ rest) k d (only_within m (suc k) (y ∷ rest) h.1) (nat_lt (e (get_or (y ∷ rest) (suc k) d)) (e (get_or (y ∷ rest) k d))))
 
   -- at the bottom
   pub good_move-bottom : (k : ℕ) (xs : List X) → OnlyAt m k xs → length xs ≡ suc k → good_move m e xs ≡ xs
@@ -49,4 +50,5 @@ module _ {X : Type 0} (m : X → Bool) (e : X → ℕ) where
   good_move-above k d (x ∷ []) h l = absurd (omega arith)
   good_move-above zero d (x ∷ y ∷ rest) h l = rw h.0 refl
   good_move-above (suc k) d (x ∷ y ∷ rest) h l =
-      rw h.0 (ap (λ (l : List X). x ∷ l) (good_move-above k d (y ∷ rest) h.1 (omega arith)) ∙ pushed x (y ∷ rest) k d (omega arith) (nat_lt (e (get_or (y ∷ rest) (suc k) d)) (e (get_or (y ∷ rest) k d))))
+      rw h.0 (ap (λ (l : List X). x ∷ l) (good_move-above k d (y ∷ rest) h.1 (omega arith))
+      ∙ pushed x (y ∷ rest) k d (omega arith) (nat_lt (e (get_or (y ∷ rest) (suc k) d)) (e (get_or (y ∷ rest) k d))))

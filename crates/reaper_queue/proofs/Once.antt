@@ -34,7 +34,8 @@ once_push xs id errors once absent k =
     let more = sum_of-append (λ (x : ℕ × ℕ). one_if (x.0 == k)) xs ((id, errors) ∷ []) in
     let before : times_in (ids_of xs) k ≤ 1 = once k in
     elim (eqb_tells k id) [
-      | inl e ↦ (let gone : times_in (ids_of xs) k ≡ 0 = ap (times_in (ids_of xs)) e.1 ∙ absent in grind (arith, nat_tests, more, times-sum xs k, times-sum (xs ++ (id, errors) ∷ []) k))
+      | inl e ↦ (let gone : times_in (ids_of xs) k ≡ 0 = ap (times_in (ids_of xs)) e.1 ∙ absent in
+          grind (arith, nat_tests, more, times-sum xs k, times-sum (xs ++ (id, errors) ∷ []) k))
       | inr e ↦ grind (arith, nat_tests, more, times-sum xs k, times-sum (xs ++ (id, errors) ∷ []) k)
     ]
 

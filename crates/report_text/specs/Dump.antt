@@ -1,5 +1,6 @@
 -- The dump of a world: everything in it, as text.
-use Rattle.std.specs.Prelude.{ℕ, List, [], ◌∷◌, ◌++◌, ◌-◌, ◌*◌, ◌==◌, Option, Some, None, codes, drop, if◌then◌else◌, length, map, replicate, take}
+use Rattle.std.specs.Prelude.{ℕ, List, [], ◌∷◌, ◌++◌, ◌-◌, ◌*◌, ◌==◌, Option, Some, None, codes, drop, if◌then◌else◌}
+use Rattle.std.specs.Prelude.{length, map, replicate, take}
 use Rattle.std.specs.Fmt.{decimal}
 use Rattle.std.specs.Int.{div_ceil}
 use Rattle.std.specs.List.{flat_map, list_all, range_with_len}
@@ -31,7 +32,8 @@ body_text c =
 -- its processor without the stack, and its errors
 abbrev pub registers_text : Creature → List ℕ
 registers_text c =
-    processor_text c ++ codes " sp " ++ decimal c.sp ++ codes " flag " ++ decimal c.flag ++ codes " errors " ++ decimal c.errors
+    processor_text c ++ codes " sp " ++ decimal c.sp ++ codes " flag " ++ decimal c.flag ++ codes " errors "
+    ++ decimal c.errors
     ++ codes " "
 
 -- the line of a creature, which ends with the name of its genotype

@@ -15,10 +15,12 @@ genotype_line name living total =
 
 -- the line of genotype k
 abbrev pub line_of : World → ℕ → List ℕ
-line_of w k = genotype_line (name_text (name_of w.genotypes k)) (number_with w.living k) (genotype_at w.genotypes k).total
+line_of w k = genotype_line (name_text (name_of w.genotypes k)) (number_with w.living k)
+    (genotype_at w.genotypes k).total
 
 -- the head, how many genotypes there are and how many are saved, and a line for each living genotype by first birth
 abbrev pub report : World → List ℕ
 report w =
-    report_head w ++ codes "genotypes " ++ decimal (length w.genotypes) ++ codes "\nkept " ++ decimal (length w.saved) ++ codes "\n"
+    report_head w ++ codes "genotypes " ++ decimal (length w.genotypes) ++ codes "\nkept " ++ decimal (length w.saved)
+    ++ codes "\n"
     ++ flat_map (line_of w) (range_with_len 0 (length w.genotypes))

@@ -1,5 +1,6 @@
 -- The entries of a log keep the counts of its records.
-use Rattle.std.proofs.Common.{◌≡◌, ◌≤◌, ◌<◌, ◌+◌, ◌-◌, ◌∙◌, ℕ, zero, suc, Bool, true, false, cond, List, [], ◌∷◌, ◌++◌, ap, sym, refl, arith, inl, inr, length, take, get_or, subst}
+use Rattle.std.proofs.Common.{◌≡◌, ◌≤◌, ◌<◌, ◌+◌, ◌-◌, ◌∙◌, ℕ, zero, suc, Bool, true, false, cond, List, [], ◌∷◌, ◌++◌, ap, sym, refl, arith, inl, inr, length}
+use Rattle.std.proofs.Common.{take, get_or, subst}
 use Rattle.std.specs.Prelude.{All, count_by, filter, fold, map, nat_le, not, ◌==◌}
 use Rattle.std.specs.List.{range_with_len}
 use Rattle.std.specs.List.Sorted.{IsPartitionPoint}
@@ -21,7 +22,8 @@ use Rattle.run_log.proofs.Numbers.{length-filter_one, ordered-once, ordered-rang
 
 -- ---- one record more
 
-pub living-push : (inoculated : ℕ) (records : List Record) (r : Record) → living_in inoculated (records ++ r ∷ []) ≡ after_record (living_in inoculated records) r
+pub living-push : (inoculated : ℕ) (records : List Record) (r : Record)
+    → living_in inoculated (records ++ r ∷ []) ≡ after_record (living_in inoculated records) r
 living-push inoculated records r = fold-append after_record (range_with_len 1 inoculated) records (r ∷ [])
 
 count-push : (p : Record → Bool) (records : List Record) (r : Record) → count_by p (records ++ r ∷ []) ≡ count_by p records + cond (p r) 1 0
@@ -104,7 +106,8 @@ kept-push inoculated entries e k order point once =
     record {
       few = k.few;
       risen = IsNonDecreasingBy-push (λ (x : Entry). quantum_of x.note) entries e k.risen
-          (λ d some. subst (λ (r : Record). quantum_of r ≤ quantum_of e.note) (get_or-map (λ (x : Entry). x.note) entries (length entries - 1) d d.note (omega arith))
+          (λ d some. subst (λ (r : Record). quantum_of r ≤ quantum_of e.note)
+          (get_or-map (λ (x : Entry). x.note) entries (length entries - 1) d d.note (omega arith))
           (order (length entries - 1) d.note (omega (arith, long))));
       once = λ id. (
           let living : living_in inoculated (records_of (entries ++ e ∷ [])) ≡ after_record (living_in inoculated (records_of entries)) e.note =
@@ -113,7 +116,8 @@ kept-push inoculated entries e k order point once =
       points = λ j d below. elim (leb_tells (length entries) j) [
         | inl last ↦ (
             let here : length entries ≡ j = omega (arith, last.1, below, length_push entries e) in
-            let whole : take (j + 1) (entries ++ e ∷ []) ≡ entries ++ e ∷ [] = take_all (j + 1) (entries ++ e ∷ []) (omega (arith, length_push entries e, here)) in
+            let whole : take (j + 1) (entries ++ e ∷ []) ≡ entries ++ e ∷ [] =
+            take_all (j + 1) (entries ++ e ∷ []) (omega (arith, length_push entries e, here)) in
             ap (λ (x : Entry). x.point) (get_or_push entries e d j here) ∙ point
             ∙ sym (ap (λ (es : List Entry). point_of inoculated (records_of es)) whole ∙ ap (point_of inoculated) records))
         | inr before ↦ (
@@ -135,7 +139,8 @@ kept-birth v entries quantum id last k is point order absent =
     let counted : last ≡ point_of v.inoculated records = point ∙ ap (point_of v.inoculated) (sym is) in
     let nobody : times_in (living_in v.inoculated records) id ≡ 0 = ap (λ (rs : List Record). times_in (living_in v.inoculated rs) id) is ∙ absent in
     kept-push v.inoculated entries e k (subst (All (λ r. quantum_of r ≤ quantum)) (sym is) order)
-    (ap (λ (p : Point). let q : Point = record { living = p.living + 1; births = p.births + 1; deaths = p.deaths } in q) counted ∙ point-birth v.inoculated records quantum id)
+    (ap (λ (p : Point). let q : Point = record { living = p.living + 1; births = p.births + 1; deaths = p.deaths } in
+    q) counted ∙ point-birth v.inoculated records quantum id)
     (once-birth (living_in v.inoculated records) id nobody k.once)
 
 pub kept-death : (v : LogFields) (entries : List Entry) (quantum id : ℕ) (last : Point) → IsKept v.inoculated entries → records_of entries ≡ v.records
@@ -169,7 +174,11 @@ filter-before p [] zero point within = refl
 filter-before p [] (suc i) point within = absurd (omega arith)
 filter-before p (x ∷ xs) zero point within = filter-none p (x ∷ xs) (λ k d below. point.1 k d (omega arith) below)
 filter-before p (x ∷ xs) (suc i) point within =
-    let rest = filter-before p xs i (λ k d low below. point.0 (suc k) d (omega arith) (omega arith), λ k d low below. point.1 (suc k) d (omega arith) (omega arith))
+    let rest = filter-before p xs i (
+      λ k d low below. point.0 (suc k) d (omega arith) (omega arith),
+      λ k d low below.
+          point.1 (suc k) d (omega arith) (omega arith),
+    )
     (omega arith) in
     ap (λ (b : Bool). cond b (x ∷ filter p xs) (filter p xs)) (point.0 0 x (omega arith) (omega arith)) ∙ ap (λ (l : List _). x ∷ l) rest
 
@@ -190,7 +199,8 @@ point-at records entries seen quantum i is same point within =
     let passes : Entry → Bool = λ (x : Entry). nat_le (quantum_of x.note) quantum in
     let here : records_of seen ≡ records = ap records_of same ∙ is in
     subst (λ rs. take i rs ≡ up_to quantum rs) here
-    (take-map note i seen ∙ ap (map note) (sym (filter-before passes seen i point within)) ∙ sym (filter-map (λ (r : Record). nat_le (quantum_of r) quantum) note seen))
+    (take-map note i seen ∙ ap (map note) (sym (filter-before passes seen i point within))
+    ∙ sym (filter-map (λ (r : Record). nat_le (quantum_of r) quantum) note seen))
 
 -- the counts after k records
 pub point-before : (v : LogFields) (entries : List Entry) (after : ℕ) (e d : Entry) → IsKept v.inoculated entries → records_of entries ≡ v.records → 0 < after

@@ -28,7 +28,11 @@ later-none v = record { next_birth = omega arith; births = refl; lived = λ id h
 
 later-put : (c : Creature) (v w : World) → IsLater v w → IsLater v (put c w)
 later-put c v w l =
-    record { next_birth = l.next_birth; births = l.births; lived = λ id h. subst (λ ids. times_in ids id ≤ times_in (ids_of v.living) id) (sym (ids_of-with c w.living)) (l.lived id h) }
+    record {
+      next_birth = l.next_birth;
+      births = l.births;
+      lived = λ id h. subst (λ ids. times_in ids id ≤ times_in (ids_of v.living) id) (sym (ids_of-with c w.living)) (l.lived id h);
+    }
 
 later-with_birth : (known : List Genotype) (o : Option Block) (parent : ℕ) (v w : World) → IsLater v w → IsLater v (with_birth known o parent w)
 later-with_birth known None parent v w l = l
@@ -50,7 +54,8 @@ later-with_birth known (Some b) parent v w l =
 
 later-event : (v w : World) (e : Event) → IsLater v w → IsLater v (apply_event w e)
 unfolding apply_event
-later-event v w event.Err l = (let p = later-put (record_after event.Err (front w)) v w l in record { next_birth = p.next_birth; births = p.births; lived = p.lived })
+later-event v w event.Err l = (let p = later-put (record_after event.Err (front w)) v w l in
+    record { next_birth = p.next_birth; births = p.births; lived = p.lived })
 later-event v w event.GiveUp l = later-put (record_after event.GiveUp (front w)) v w l
 later-event v w (event.Mal at size) l = later-put (record_after (event.Mal at size) (front w)) v w l
 later-event v w (event.Reap place) l =

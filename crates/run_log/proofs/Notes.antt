@@ -1,5 +1,6 @@
 -- What is noted of a quantum, one birth or death after another.
-use Rattle.std.proofs.Common.{◌≡◌, ◌≤◌, ◌<◌, ◌+◌, ◌-◌, ◌∙◌, ℕ, suc, Bool, true, false, cond, List, [], ◌∷◌, ◌++◌, ap, sym, refl, arith, length, subst, get_or, take, drop, drop-cons, add-one}
+use Rattle.std.proofs.Common.{◌≡◌, ◌≤◌, ◌<◌, ◌+◌, ◌-◌, ◌∙◌, ℕ, suc, Bool, true, false, cond, List, [], ◌∷◌, ◌++◌, ap, sym, refl, arith, length, subst, get_or}
+use Rattle.std.proofs.Common.{take, drop, drop-cons, add-one}
 use Rattle.std.specs.Prelude.{All, filter, if◌then◌else◌, map, not, ◌==◌}
 use Rattle.std.specs.List.{range_with_len}
 use Rattle.std.proofs.lemmas.List.{append-nil, append_assoc, map-append, take_more, take-append-drop}
@@ -15,15 +16,19 @@ use Rattle.run_log.proofs.Entries.{living-push}
 use Rattle.run_log.proofs.Runs.{filter-one, range-more}
 
 -- records of a quantum after others of it or of those before it
-pub order-births : (q : ℕ) (before now : List Record) (ids : List ℕ) → All (λ r. quantum_of r ≤ q) before → now ≡ before ++ map (λ k. Birth q k) ids → All (λ r. quantum_of r ≤ q) now
+pub order-births : (q : ℕ) (before now : List Record) (ids : List ℕ) → All (λ r. quantum_of r ≤ q) before → now ≡ before ++ map (λ k. Birth q k) ids
+    → All (λ r. quantum_of r ≤ q) now
 order-births q before now ids order is =
     subst (All (λ r. quantum_of r ≤ q)) (sym is)
-    (All-append (λ r. quantum_of r ≤ q) before (map (λ k. Birth q k) ids) order (All-map (λ r. quantum_of r ≤ q) (λ k. Birth q k) ids (λ k d below. omega arith)))
+    (All-append (λ r. quantum_of r ≤ q) before (map (λ k. Birth q k) ids) order
+    (All-map (λ r. quantum_of r ≤ q) (λ k. Birth q k) ids (λ k d below. omega arith)))
 
-pub order-deaths : (q : ℕ) (before now : List Record) (ids : List ℕ) → All (λ r. quantum_of r ≤ q) before → now ≡ before ++ map (λ k. Death q k) ids → All (λ r. quantum_of r ≤ q) now
+pub order-deaths : (q : ℕ) (before now : List Record) (ids : List ℕ) → All (λ r. quantum_of r ≤ q) before → now ≡ before ++ map (λ k. Death q k) ids
+    → All (λ r. quantum_of r ≤ q) now
 order-deaths q before now ids order is =
     subst (All (λ r. quantum_of r ≤ q)) (sym is)
-    (All-append (λ r. quantum_of r ≤ q) before (map (λ k. Death q k) ids) order (All-map (λ r. quantum_of r ≤ q) (λ k. Death q k) ids (λ k d below. omega arith)))
+    (All-append (λ r. quantum_of r ≤ q) before (map (λ k. Death q k) ids) order
+    (All-map (λ r. quantum_of r ≤ q) (λ k. Death q k) ids (λ k d below. omega arith)))
 
 -- ---- births
 
@@ -33,13 +38,23 @@ range-next first id le =
     let last : first + (id - first) ≡ id = omega arith in
     ap (range_with_len first) one ∙ range-more first (id - first) ∙ ap (λ (k : ℕ). range_with_len first (id - first) ++ k ∷ []) last
 
-pub absent-next : (first id : ℕ) (old new : List ℕ) → ((k : ℕ) → first ≤ k → times_in old k ≡ 0) → first ≤ id → new ≡ old ++ range_with_len first (id - first) → times_in new id ≡ 0
+pub absent-next : (first id : ℕ) (old new : List ℕ) → ((k : ℕ) → first ≤ k → times_in old k ≡ 0) → first ≤ id → new ≡ old ++ range_with_len first (id - first)
+    → times_in new id ≡ 0
 absent-next first id old new fresh le is =
-    omega (arith, ap (λ (l : List ℕ). times_in l id) is, times_in-append old (range_with_len first (id - first)) id, fresh id le, range-past first (id - first) id (omega arith))
+    omega (
+      arith,
+      ap (λ (l : List ℕ). times_in l id) is,
+      times_in-append old (range_with_len first (id - first)) id,
+      fresh id le,
+      range-past first (id - first)
+          id (omega arith),
+    )
 
-pub born-next : (first id : ℕ) (old new : List ℕ) → first ≤ id → new ≡ old ++ range_with_len first (id - first) → new ++ id ∷ [] ≡ old ++ range_with_len first (id + 1 - first)
+pub born-next : (first id : ℕ) (old new : List ℕ) → first ≤ id → new ≡ old ++ range_with_len first (id - first)
+    → new ++ id ∷ [] ≡ old ++ range_with_len first (id + 1 - first)
 born-next first id old new le is =
-    ap (λ (l : List ℕ). l ++ id ∷ []) is ∙ append_assoc old (range_with_len first (id - first)) (id ∷ []) ∙ ap (λ (l : List ℕ). old ++ l) (sym (range-next first id le))
+    ap (λ (l : List ℕ). l ++ id ∷ []) is ∙ append_assoc old (range_with_len first (id - first)) (id ∷ []) ∙ ap (λ (l : List ℕ). old ++ l)
+    (sym (range-next first id le))
 
 pub births-next : (q first id : ℕ) (before now : List Record) → first ≤ id → now ≡ before ++ map (λ k. Birth q k) (range_with_len first (id - first))
     → now ++ Birth q id ∷ [] ≡ before ++ map (λ k. Birth q k) (range_with_len first (id + 1 - first))
@@ -50,7 +65,8 @@ births-next q first id before now le is =
 
 -- ---- deaths
 
-module _ (p : ℕ → Bool) (q i id : ℕ) (xs left : List ℕ) (inoculated : ℕ) (before now : List Record) (within : i < length xs) (item : id ≡ get_or xs i id) (once : (k : ℕ) → times_in xs k ≤ 1)
+module _ (p : ℕ → Bool) (q i id : ℕ) (xs left : List ℕ) (inoculated : ℕ) (before now : List Record) (within : i < length xs) (item : id ≡ get_or xs i id)
+    (once : (k : ℕ) → times_in xs k ≤ 1)
     (kept : left ≡ filter p (take i xs)) (same : living_in inoculated now ≡ left ++ drop i xs)
     (records : now ≡ before ++ map (λ k. Death q k) (filter (λ k. not (p k)) (take i xs))) where
   rest : drop i xs ≡ id ∷ drop (i + 1) xs
@@ -98,7 +114,8 @@ module _ (p : ℕ → Bool) (q i id : ℕ) (xs left : List ℕ) (inoculated : �
   pub records-kept : p id ≡ true → now ≡ before ++ map (λ k. Death q k) (filter (λ k. not (p k)) (take (i + 1) xs))
   records-kept e =
       let none : filter (λ k. not (p k)) (take (i + 1) xs) ≡ filter (λ k. not (p k)) (take i xs) =
-      ends (λ k. not (p k)) ∙ ap (λ (b : Bool). filter (λ k. not (p k)) (take i xs) ++ cond (not b) (id ∷ []) []) e ∙ append-nil (filter (λ k. not (p k)) (take i xs)) in
+      ends (λ k. not (p k)) ∙ ap (λ (b : Bool). filter (λ k. not (p k)) (take i xs) ++ cond (not b) (id ∷ []) []) e
+      ∙ append-nil (filter (λ k. not (p k)) (take i xs)) in
       records ∙ ap (λ (l : List ℕ). before ++ map (λ k. Death q k) l) (sym none)
 
   -- who does not leaves
@@ -125,10 +142,12 @@ module _ (p : ℕ → Bool) (q i id : ℕ) (xs left : List ℕ) (inoculated : �
       go true e at = at ∙ kept-next e
       go false e at = at ∙ left-gone e
 
-  pub records-next : (new : List Record) → new ≡ (if p id then now else now ++ Death q id ∷ []) → new ≡ before ++ map (λ k. Death q k) (filter (λ k. not (p k)) (take (i + 1) xs))
+  pub records-next : (new : List Record) → new ≡ (if p id then now else now ++ Death q id ∷ [])
+      → new ≡ before ++ map (λ k. Death q k) (filter (λ k. not (p k)) (take (i + 1) xs))
   records-next new is = go (p id) refl is
     where
-      go : (b : Bool) → p id ≡ b → new ≡ (if b then now else now ++ Death q id ∷ []) → new ≡ before ++ map (λ k. Death q k) (filter (λ k. not (p k)) (take (i + 1) xs))
+      go : (b : Bool) → p id ≡ b → new ≡ (if b then now else now ++ Death q id ∷ [])
+          → new ≡ before ++ map (λ k. Death q k) (filter (λ k. not (p k)) (take (i + 1) xs))
       go true e at = at ∙ records-kept e
       go false e at = at ∙ records-gone e
 
@@ -136,6 +155,7 @@ module _ (p : ℕ → Bool) (q i id : ℕ) (xs left : List ℕ) (inoculated : �
       → living_in inoculated new ≡ after ++ drop (i + 1) xs
   same-next after new is at = go (p id) is at
     where
-      go : (b : Bool) → after ≡ (if b then left ++ id ∷ [] else left) → new ≡ (if b then now else now ++ Death q id ∷ []) → living_in inoculated new ≡ after ++ drop (i + 1) xs
+      go : (b : Bool) → after ≡ (if b then left ++ id ∷ [] else left) → new ≡ (if b then now else now ++ Death q id ∷ [])
+          → living_in inoculated new ≡ after ++ drop (i + 1) xs
       go true f g = ap (living_in inoculated) g ∙ same-kept ∙ sym (ap (λ (l : List ℕ). l ++ drop (i + 1) xs) f)
       go false f g = ap (living_in inoculated) g ∙ same-gone ∙ sym (ap (λ (l : List ℕ). l ++ drop (i + 1) xs) f)

@@ -1,5 +1,6 @@
 -- The records of a run count its worlds.
-use Rattle.std.proofs.Common.{◌≡◌, ◌≤◌, ◌<◌, ◌+◌, ◌-◌, ◌∙◌, ℕ, zero, suc, Bool, true, false, cond, List, [], ◌∷◌, ◌++◌, add-one, ap, sym, refl, arith, length, subst, get_or}
+use Rattle.std.proofs.Common.{◌≡◌, ◌≤◌, ◌<◌, ◌+◌, ◌-◌, ◌∙◌, ℕ, zero, suc, Bool, true, false, cond, List, [], ◌∷◌, ◌++◌, add-one, ap, sym, refl, arith, length}
+use Rattle.std.proofs.Common.{subst, get_or}
 use Rattle.std.specs.Prelude.{All, None, count_by, filter, fold, map, nat_le, not, ◌==◌}
 use Rattle.std.specs.List.{flat_map, range_with_len}
 use Rattle.std.proofs.lemmas.Bool.Decides.{nat_tests}
@@ -47,7 +48,8 @@ range-more a n =
 filter-all : {X : Type 0} (p : X → Bool) (xs : List X) → All (λ x. p x ≡ true) xs → filter p xs ≡ xs
 filter-all p [] h = refl
 filter-all p (x ∷ xs) h =
-    ap (λ (b : Bool). cond b (x ∷ filter p xs) (filter p xs)) (h 0 x (omega arith)) ∙ ap (λ (l : List _). x ∷ l) (filter-all p xs (λ k d below. h (suc k) d (omega arith)))
+    ap (λ (b : Bool). cond b (x ∷ filter p xs) (filter p xs)) (h 0 x (omega arith)) ∙ ap (λ (l : List _). x ∷ l)
+    (filter-all p xs (λ k d below. h (suc k) d (omega arith)))
 
 filter-nothing : {X : Type 0} (p : X → Bool) (xs : List X) → All (λ x. p x ≡ false) xs → filter p xs ≡ []
 filter-nothing p [] h = refl
@@ -166,8 +168,26 @@ tracks-more inoculated q rs v w sv sw l t =
           ∙ ap (λ (xs : List ℕ). fold after_record xs died) (living-births (q + 1) (ids_of v.living) (born_in v w))
           ∙ living-deaths (q + 1) (lives w) [] (lived_in v w) (λ id. ordered-once 1 (lived_in v w) id (lived-ordered v w sv sw l))
           ∙ survivors v w sv sw l;
-      births = omega (arith, of_birth, count-append is_birth born died, births-births (q + 1) (born_in v w), births-deaths (q + 1) (dead_in v w), long, t.births, l.births, l.next_birth);
-      deaths = omega (arith, of_death, count-append is_death born died, deaths-births (q + 1) (born_in v w), deaths-deaths (q + 1) (dead_in v w), t.deaths, deaths-counted v w sv sw l);
+      births = omega (
+        arith,
+        of_birth,
+        count-append is_birth born died,
+        births-births (q + 1) (born_in v w),
+        births-deaths (q + 1) (dead_in v w),
+        long,
+        t.births,
+        l.births,
+        l.next_birth,
+      );
+      deaths = omega (
+        arith,
+        of_death,
+        count-append is_death born died,
+        deaths-births (q + 1) (born_in v w),
+        deaths-deaths (q + 1) (dead_in v w),
+        t.deaths,
+        deaths-counted v w sv sw l,
+      );
       up_to_q = All-append (λ r. quantum_of r ≤ q + 1) rs (born ++ died) (λ k d below. omega (arith, t.up_to_q k d below))
           (in-quantum (λ r. quantum_of r ≤ q + 1) (q + 1) v w (λ r e. omega (arith, e)));
     }
@@ -244,7 +264,8 @@ up_to-more setup q (suc k) h few =
     let p : Record → Bool = λ (r : Record). nat_le (quantum_of r) q in
     let v : World = serial setup (q + k) in
     let w : World = serial setup (q + k + 1) in
-    let more : run_records setup (q + suc k) ≡ run_records setup (q + k) ++ records_in (q + k + 1) v w = ap (run_records setup) (next q k) ∙ run-more setup (q + k) in
+    let more : run_records setup (q + suc k) ≡ run_records setup (q + k) ++ records_in (q + k + 1) v w =
+    ap (run_records setup) (next q k) ∙ run-more setup (q + k) in
     ap (up_to q) more ∙ filter-append p (run_records setup (q + k)) (records_in (q + k + 1) v w)
     ∙ ap (λ (l : List Record). up_to q (run_records setup (q + k)) ++ l)
     (filter-nothing p (records_in (q + k + 1) v w)
@@ -296,19 +317,22 @@ is-turn v w q sound number more next =
       few = omega (arith, after.next_birth, after.quanta);
     }
 
-pub turn-order : (setup : SetupFields) (n : ℕ) (rs : List Record) → IsSetup setup → n + 1 ≤ MOST_QUANTA → rs ≡ run_records setup n → All (λ r. quantum_of r ≤ n + 1) rs
+pub turn-order : (setup : SetupFields) (n : ℕ) (rs : List Record) → IsSetup setup → n + 1 ≤ MOST_QUANTA → rs ≡ run_records setup n
+    → All (λ r. quantum_of r ≤ n + 1) rs
 turn-order setup n rs h few is = λ k d below. (
     let t = (run-tracks setup n h (omega arith)).up_to_q in
     let all : All (λ r. quantum_of r ≤ n) rs = subst (All (λ r. quantum_of r ≤ n)) (sym is) t in
     omega (arith, all k d below))
 
-pub turn-living : (inoculated n i : ℕ) (rs qs : List Record) (living : List ℕ) (v : World) → Tracks inoculated n rs v → i ≡ inoculated → qs ≡ rs → living ≡ ids_of v.living
+pub turn-living : (inoculated n i : ℕ) (rs qs : List Record) (living : List ℕ) (v : World) → Tracks inoculated n rs v → i ≡ inoculated → qs ≡ rs
+    → living ≡ ids_of v.living
     → living ≡ living_in i qs
 turn-living inoculated n i rs qs living v t same is ids =
     ids ∙ sym t.living ∙ sym (ap (λ (k : ℕ). living_in k qs) same ∙ ap (living_in inoculated) is)
 
 -- those noted before the deaths of a quantum are those who lived before it or were born in it
-pub turn-lived : (i b d : ℕ) (v w : World) (old new : List ℕ) → IsTurn v w → v.next_birth ≡ i + v.births + 1 → b ≡ v.births → d ≡ w.births → old ≡ ids_of v.living
+pub turn-lived : (i b d : ℕ) (v w : World) (old new : List ℕ) → IsTurn v w → v.next_birth ≡ i + v.births + 1 → b ≡ v.births → d ≡ w.births
+    → old ≡ ids_of v.living
     → new ≡ old ++ range_with_len (i + b + 1) (i + d + 1 - (i + b + 1)) → new ≡ lived_in v w
 turn-lived i b d v w old new t numbers before after ids noted =
     let first : i + b + 1 ≡ v.next_birth = omega arith in
@@ -317,7 +341,8 @@ turn-lived i b d v w old new t numbers before after ids noted =
     ∙ (λ k. ids_of v.living ++ range_with_len (first k) (count k))
 
 -- the births and deaths noted are the records of the quantum
-pub turn-records : (q : ℕ) (v w : World) (rs born dead : List Record) (old ids : List ℕ) (lived : List ℕ) → old ≡ ids_of v.living → born ≡ rs ++ map (λ id. Birth q id) ids
+pub turn-records : (q : ℕ) (v w : World) (rs born dead : List Record) (old ids : List ℕ) (lived : List ℕ) → old ≡ ids_of v.living
+    → born ≡ rs ++ map (λ id. Birth q id) ids
     → lived ≡ old ++ ids → dead ≡ born ++ map (λ id. Death q id) (filter (λ id. not (lives w id)) lived) → lived ≡ lived_in v w → dead ≡ rs ++ records_in q v w
 turn-records q v w rs born dead old ids lived is births noted deaths seen =
     let given : ids ≡ born_in v w = append_cancel_left (ids_of v.living) ids (born_in v w) (ap (λ (l : List ℕ). l ++ ids) (sym is) ∙ sym noted ∙ seen) in
@@ -325,7 +350,8 @@ turn-records q v w rs born dead old ids lived is births noted deaths seen =
     ∙ ap (λ (l : List ℕ). (rs ++ map (λ id. Birth q id) l) ++ map (λ id. Death q id) (dead_in v w)) given
     ∙ append_assoc rs (map (λ id. Birth q id) (born_in v w)) (map (λ id. Death q id) (dead_in v w))
 
-pub living-after : (i q : ℕ) (rs now : List Record) (old new ids : List ℕ) → old ≡ living_in i rs → now ≡ rs ++ map (λ id. Birth q id) ids → new ≡ old ++ ids → new ≡ living_in i now
+pub living-after : (i q : ℕ) (rs now : List Record) (old new ids : List ℕ) → old ≡ living_in i rs → now ≡ rs ++ map (λ id. Birth q id) ids → new ≡ old ++ ids
+    → new ≡ living_in i now
 living-after i q rs now old new ids is noted more =
     more ∙ ap (λ (l : List ℕ). l ++ ids) is
     ∙ sym (ap (living_in i) noted ∙ fold-append after_record (range_with_len 1 i) rs (map (λ id. Birth q id) ids) ∙ living-births q (living_in i rs) ids)

@@ -15,7 +15,8 @@ one f true q = append-nil (f q)
 one f false q = refl
 
 shown-more : (f : ℕ → List ℕ) (n every q : ℕ)
-    → flat_map f (filter (is_shown n every) (range_with_len 0 (q + 1))) ≡ flat_map f (filter (is_shown n every) (range_with_len 0 q)) ++ (if is_shown n every q then f q else [])
+    → flat_map f (filter (is_shown n every) (range_with_len 0 (q + 1)))
+    ≡ flat_map f (filter (is_shown n every) (range_with_len 0 q)) ++ (if is_shown n every q then f q else [])
 shown-more f n every q =
     let p : ℕ → Bool = is_shown n every in
     let here : 0 + q ≡ q = omega arith in
@@ -33,7 +34,8 @@ shown-next f n every q old before now is more =
     ∙ ap (λ (l : List ℕ). old ++ l) (sym (shown-more f n every q))
 
 -- one record more
-pub record-next : (f : Record → List ℕ) (rs : List Record) (k : ℕ) (r : Record) (old before now : List ℕ) → slice_get rs k ≡ Some r → before ≡ old ++ flat_map f (take k rs)
+pub record-next : (f : Record → List ℕ) (rs : List Record) (k : ℕ) (r : Record) (old before now : List ℕ) → slice_get rs k ≡ Some r
+    → before ≡ old ++ flat_map f (take k rs)
     → now ≡ before ++ f r → now ≡ old ++ flat_map f (take (k + 1) rs)
 record-next f rs k r old before now got is more =
     let one_more : take (k + 1) rs ≡ take k rs ++ r ∷ [] =

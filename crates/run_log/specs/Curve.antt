@@ -62,4 +62,5 @@ point_line quantum p =
 -- the records, then the counts of the worlds shown
 unfoldable pub curve_text : SetupFields → ℕ → ℕ → List ℕ
 curve_text setup n every =
-    flat_map record_line (run_records setup n) ++ flat_map (λ q. point_line q (counts_of (serial setup q))) (shown n every)
+    flat_map record_line (run_records setup n) ++ flat_map (λ q. point_line q (counts_of (serial setup q)))
+    (shown n every)

@@ -17,4 +17,5 @@ pub record IsKept (inoculated : ℕ) (entries : List Entry) : Type 0 where
   -- nobody lives twice
   pub once : (id : ℕ) → times_in (living_in inoculated (records_of entries)) id ≤ 1
   -- each entry has the counts of the records up to its own
-  pub points : (k : ℕ) (d : Entry) → k < length entries → (slice_index_or entries k d).point ≡ point_of inoculated (records_of (take (k + 1) entries))
+  pub points : (k : ℕ) (d : Entry) → k < length entries
+      → (slice_index_or entries k d).point ≡ point_of inoculated (records_of (take (k + 1) entries))

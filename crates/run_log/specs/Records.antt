@@ -1,5 +1,6 @@
 -- The records of a run, and what they count.
-use Rattle.std.specs.Prelude.{Bool, List, [], ◌++◌, ◌==◌, ◌∷◌, count_by, false, filter, fold, length, nat_le, not, true, ℕ}
+use Rattle.std.specs.Prelude.{Bool, List, [], ◌++◌, ◌==◌, ◌∷◌, count_by, false, filter, fold, length, nat_le, not, true}
+use Rattle.std.specs.Prelude.{ℕ}
 use Rattle.std.specs.List.{range_with_len}
 use Rattle.run_log.specs.declared.log.Point.{Point}
 use Rattle.run_log.specs.declared.record.Record.{Record}
@@ -39,4 +40,8 @@ living_in inoculated records = fold after_record (range_with_len 1 inoculated) r
 -- the counts after the records
 abbrev pub point_of : ℕ → List Record → Point
 point_of inoculated records =
-    record { living = length (living_in inoculated records); births = count_by is_birth records; deaths = count_by is_death records }
+    record {
+      living = length (living_in inoculated records);
+      births = count_by is_birth records;
+      deaths = count_by is_death records;
+    }

@@ -1,5 +1,6 @@
 -- The result of a schedule: a fold over its moves.
-use Rattle.std.specs.Prelude.{Bool, List, None, Option, Some, [], count_by, false, if◌then◌else◌, is_some, nat_le, nat_lt, replicate, slice_index_or, slice_set, true, ℕ, ◌+◌, ◌-◌, ◌==◌, ◌∷◌}
+use Rattle.std.specs.Prelude.{Bool, List, None, Option, Some, [], count_by, false, if◌then◌else◌, is_some, nat_le}
+use Rattle.std.specs.Prelude.{nat_lt, replicate, slice_index_or, slice_set, true, ℕ, ◌+◌, ◌-◌, ◌==◌, ◌∷◌}
 use Rattle.tierra_model.specs.declared.history.Entry.{Entry}
 use Rattle.tierra_model.specs.declared.history.How.TheVariants as how
 use Rattle.tierra_model.specs.Findings.{Finding, finding_of}
@@ -58,7 +59,8 @@ abbrev pub after_claim : ℕ → DrillFields → DrillFields
 after_claim hand d =
     if d.book.committed == d.book.quanta then count_idle d
     else if nat_le (most_ahead d.book) (d.book.handed - d.book.committed) then count_full d
-    else with_held hand (Some (finding_of (next_job d.book))) (record d { book = record d.book { handed = d.book.handed + 1 } })
+    else with_held hand (Some (finding_of (next_job d.book)))
+    (record d { book = record d.book { handed = d.book.handed + 1 } })
 
 -- a finding is offered by the hand
 abbrev pub after_offer : ℕ → Finding → DrillFields → DrillFields

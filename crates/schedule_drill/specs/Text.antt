@@ -13,7 +13,8 @@ abbrev pub tally_text : ℕ → Tally → List ℕ
 tally_text quanta t =
     codes "quanta " ++ decimal quanta ++ codes "\nfresh " ++ decimal t.fresh ++ codes "\nmissing " ++ decimal t.missing
     ++ codes "\nstale " ++ decimal t.stale ++ codes "\nkept " ++ decimal t.kept ++ codes "\ntwice " ++ decimal t.twice
-    ++ codes "\nlate " ++ decimal t.late ++ codes "\nfull " ++ decimal t.full ++ codes "\nidle " ++ decimal t.idle ++ codes "\n"
+    ++ codes "\nlate " ++ decimal t.late ++ codes "\nfull " ++ decimal t.full ++ codes "\nidle " ++ decimal t.idle
+    ++ codes "\n"
 
 -- the tally of the schedule, and the digest of the world that the serial run reaches
 abbrev pub drill_text : SetupFields → ℕ → ℕ → List ℕ

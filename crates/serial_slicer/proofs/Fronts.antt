@@ -21,7 +21,8 @@ use Rattle.world_core.proofs.Within.{front_genotype, front_placed, front_small, 
 
 -- ---- put back as it is
 
-with_record-same : (living : List Creature) (id : ℕ) → times_in (ids_of living) id ≤ 1 → is_here living id ≡ true → with_record (one_of living id) living ≡ living
+with_record-same : (living : List Creature) (id : ℕ) → times_in (ids_of living) id ≤ 1 → is_here living id ≡ true
+    → with_record (one_of living id) living ≡ living
 with_record-same [] id h k = refl
 with_record-same (x ∷ xs) id h k = grind (arith, nat_tests, with_record-same xs id, with_record-none x xs, one_of-id xs id)
 

@@ -146,13 +146,18 @@ module _ (s : Settings) (draw : ℕ → ℕ) (i : ℕ) (c e : Creature) (v u : S
   steps : InSoup k.settings.soup_size (k.copies + 1) outcome.0
   steps =
       let same : s ≡ k.settings = settings ∙ k.within.settings in
-      let f = subst (InBounds k.settings.soup_size k.errors k.copies) now (front-in_bounds k.settings.soup_size k.errors k.copies k.births world k.within.population) in
+      let f = subst (InBounds k.settings.soup_size k.errors k.copies) now
+      (front-in_bounds k.settings.soup_size k.errors k.copies k.births world k.within.population) in
       subst (λ (z : Settings). InSoup z.soup_size (k.copies + 1) outcome.0) same
       (holds (Steps s.soup_size (k.copies + 1)) (always-walk (Steps s.soup_size (k.copies + 1)) s (step s draw i c) world below
       (step_steps s draw i k.copies c (subst (λ (z : Settings). InSoup z.soup_size k.copies c) (sym same) (f.ip, f.sp, f.moved, f.ran)))))
 
   turn : IsTurn outcome.0 v
-  turn = record { shares = shares-both (front v.world) c outcome.0 t.shares keeps.0; own = t.own ∙ sym keeps.0.own; daughter = t.daughter ∙ sym keeps.0.daughter }
+  turn = record {
+    shares = shares-both (front v.world) c outcome.0 t.shares keeps.0;
+    own = t.own ∙ sym keeps.0.own;
+    daughter = t.daughter ∙ sym keeps.0.daughter;
+  }
 
   again : put outcome.0 world ≡ put outcome.0 v.world
   again = put-put outcome.0 c v.world keeps.0.id
@@ -166,7 +171,8 @@ module _ (s : Settings) (draw : ℕ → ℕ) (i : ℕ) (c e : Creature) (v u : S
   is_instruction : instruction world_machine s draw i world ≡ act_done s a e u
   unfolding instruction
   is_instruction =
-      ap (λ (d : Creature). perform world_machine s (walk world_machine s (step s draw i d) world).1.1 (put (walk world_machine s (step s draw i d) world).1.0 (walk world_machine s (step s draw i d) world).0)) now
+      ap (λ (d : Creature). perform world_machine s (walk world_machine s (step s draw i d) world).1.1
+      (put (walk world_machine s (step s draw i d) world).1.0 (walk world_machine s (step s draw i d) world).0)) now
       ∙ ap (λ (r : World × Outcome). perform world_machine s r.1.1 (put r.1.0 r.0)) (walk-answer s (step s draw i c) world)
       ∙ ap (perform world_machine s outcome.1) again
       ∙ performed s outcome.1 outcome.0 v l (keeps.0.id ∙ number) turn.shares

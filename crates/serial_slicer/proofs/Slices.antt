@@ -81,7 +81,8 @@ module _ (s : Settings) (w : World) (sound : IsSound w) (more : w.quanta < MOST_
   pub after_flip : (u : World) → u ≡ flip world_machine w.settings bit w → Flipped w u
   after_flip u is =
       subst (Flipped w) (sym is)
-      (flipped w.settings w bit (back_flip_of w.settings.back_rate (word w.settings.seed q) w.settings.soup_size (omega (arith, w.settings.soup))) (sound-in_quantum w sound more))
+      (flipped w.settings w bit (back_flip_of w.settings.back_rate (word w.settings.seed q) w.settings.soup_size (omega (arith, w.settings.soup)))
+      (sound-in_quantum w sound more))
 
   -- no instruction has run yet
   pub none_run : (u v : World) → u ≡ flip world_machine w.settings bit w → v ≡ disturb world_machine s (is_disturbed s.dist_every (u.quanta + 1)) u
@@ -91,7 +92,8 @@ module _ (s : Settings) (w : World) (sound : IsSound w) (more : w.quanta < MOST_
       disturbs
       ∙ (λ j. disturb world_machine s (is_disturbed s.dist_every ((after_flip u flips).quanta j + 1)) u)
       ∙ ap (disturb world_machine s (is_disturbed s.dist_every q)) flips
-      ∙ ap (λ (z : Settings). disturb world_machine s (is_disturbed s.dist_every q) (flip world_machine z (back_flip z.back_rate (word z.seed q) z.soup_size) w)) (sym settings)
+      ∙ ap (λ (z : Settings). disturb world_machine s (is_disturbed s.dist_every q)
+      (flip world_machine z (back_flip z.back_rate (word z.seed q) z.soup_size) w)) (sym settings)
 
   within_run : (k : ℕ) → k ≤ 10000 → InQuantum (run world_machine s q k w)
   within_run k few = subst (λ (z : Settings). InQuantum (run world_machine z q k w)) (sym settings) (run-in_quantum w k sound more few)
@@ -117,7 +119,8 @@ module _ (s : Settings) (w : World) (sound : IsSound w) (more : w.quanta < MOST_
   module _ (k : ℕ) (c : Creature) (v : World) (few : k ≤ 10000) (shares : Shares (front v) c) (is : put c v ≡ run world_machine s q k w) where
     same : (v.settings ≡ s) × (v.quanta + 1 ≡ q)
     same =
-        let r = subst (λ (z : Settings). ((run world_machine z q k w).settings ≡ w.settings) × ((run world_machine z q k w).quanta + 1 ≡ q)) (sym settings) (run-same w k sound) in
+        let r = subst (λ (z : Settings). ((run world_machine z q k w).settings ≡ w.settings) × ((run world_machine z q k w).quanta + 1 ≡ q)) (sym settings)
+        (run-same w k sound) in
         (ap (λ (x : World). x.settings) is ∙ r.0 ∙ sym settings, ap (λ (x : World). x.quanta + 1) is ∙ r.1)
 
     pub settings_then : s ≡ v.settings

@@ -45,7 +45,8 @@ sole-event e h k s ready same =
     (ap (λ (w : World). length w.soup) same ∙ ap length (soup-event h.world e) ∙ length-soup_after e h.world.soup)
 
 -- the write of a cell, as the view tells it
-pub sole-written : (h k : WorldFields) (own : Block) (daughter : Option Block) (v : SoleFields) (at value : ℕ) → v ≡ record { world = h.world; own = own; daughter = daughter }
+pub sole-written : (h k : WorldFields) (own : Block) (daughter : Option Block) (v : SoleFields) (at value : ℕ)
+    → v ≡ record { world = h.world; own = own; daughter = daughter }
     → k.world ≡ apply_event h.world (event.Write at value)
     → record { world = k.world; own = own; daughter = daughter } ≡ record v { world = record v.world { soup = slice_set v.world.soup at value } }
 unfolding apply_event

@@ -36,7 +36,7 @@ impl InPlace {
     pub fn of(world: World) -> Result<InPlace, OutOfMemory>
         ensures { IfOk result (λ r. r ≡ world.world) }
     {
-        let _settings = world.settings();
+        let _settings = world.settings(); // for its contract alone
         Ok(InPlace {
             sole: Sole::new(world.begin())?,
         })

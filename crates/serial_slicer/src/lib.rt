@@ -36,7 +36,7 @@ pub fn run_on(alloc: Global, world: World, n: u64) -> Result<World, OutOfMemory>
     requires { world.world.quanta + n ≤ MOST_QUANTA }
     ensures { IfOk result (λ w. w.world ≡ after n world.world) }
 {
-    let _settings = world.settings();
+    let _settings = world.settings(); // for its contract alone
     let mut sole = Sole::new(world.begin())?;
     run_quanta::<Brand>(alloc, &mut sole, n, Blank::new(1))?;
     let world = sole.into_running().finish(alloc)?;

@@ -41,6 +41,7 @@ remove-filter ids place id once found =
 
 pub once_filter : (ids : List ℕ) (id : ℕ) → Once ids → Once (filter (λ x. not (x == id)) ids)
 once_filter ids id once k = elim (eqb_tells k id) [
-  | inl e ↦ (let gone : times_in (filter (λ x. not (x == id)) ids) k ≡ 0 = ap (times_in (filter (λ x. not (x == id)) ids)) e.1 ∙ times_in-filter_same ids id in omega arith)
+  | inl e ↦ (let gone : times_in (filter (λ x. not (x == id)) ids) k ≡ 0 = ap (times_in (filter (λ x. not (x == id)) ids)) e.1 ∙ times_in-filter_same ids id in
+      omega arith)
   | inr e ↦ (let before : times_in ids k ≤ 1 = once k in omega (arith, times_in-filter_other ids id k e.1))
 ]

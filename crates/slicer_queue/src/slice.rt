@@ -19,32 +19,17 @@ pub fn slice_of(size: u32, settings: &Settings) -> u32
 #[cfg(test)]
 mod tests {
     use super::*;
+    use tierra_model::defaults;
 
     fn settings(slice_by_size: bool, slice_num: u32, slice_den: u32) -> Settings
         requires num { (1 ≤ slice_num) × (slice_num ≤ 100) }
         requires den { (1 ≤ slice_den) × (slice_den ≤ 100) }
     {
-        Settings {
-            soup_size: 60_000,
-            slice_size: 25,
-            slice_by_size,
-            slice_num,
-            slice_den,
-            search_limit: 400,
-            min_template: 1,
-            min_cell: 12,
-            max_cell: 20_000,
-            mal_mult: 3,
-            fill_percent: 80,
-            move_percent: 70,
-            save_at: 2,
-            back_rate: 0,
-            copy_rate: 0,
-            flaw_rate: 0,
-            seed: [0; 32],
-            dist_every: 0,
-            dist_percent: 0,
-        }
+        let mut settings = defaults();
+        settings.slice_by_size = slice_by_size;
+        settings.slice_num = slice_num;
+        settings.slice_den = slice_den;
+        settings
     }
 
     #[test]

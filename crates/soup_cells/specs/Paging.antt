@@ -1,5 +1,6 @@
 -- The pages of a soup, beside the row of its cells.
-use Rattle.std.specs.Prelude.{Bool, IfSome, List, None, Option, Some, [], false, length, replicate, true, ℕ, ◌+◌, ◌/◌, ◌≡◌}
+use Rattle.std.specs.Prelude.{Bool, IfSome, List, None, Option, Some, [], false, length, replicate, true, ℕ, ◌+◌, ◌/◌}
+use Rattle.std.specs.Prelude.{◌≡◌}
 use Rattle.std.specs.Arc.{arc_value}
 use Rattle.soup_cells.specs.declared.soup.Paging.{Paging}
 use Rattle.soup_cells.specs.declared.soup.Paging.TheVariants.{Own, Shared, Uncut}

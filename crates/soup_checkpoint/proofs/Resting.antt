@@ -1,5 +1,6 @@
 -- What files at rest say.
-use Rattle.std.proofs.Common.{◌≡◌, ◌∙◌, inl, inr, refl, sym, ap, subst, ℕ, ◌+◌, ◌≤◌, arith, List, [], ◌∷◌, ◌++◌, length, take, drop, All, Option, Some, None, Result, Ok, Err, append_assoc, append-nil, length-append, take-append-drop}
+use Rattle.std.proofs.Common.{◌≡◌, ◌∙◌, inl, inr, refl, sym, ap, subst, ℕ, ◌+◌, ◌≤◌, arith, List, [], ◌∷◌, ◌++◌, length, take, drop, All, Option, Some, None}
+use Rattle.std.proofs.Common.{Result, Ok, Err, append_assoc, append-nil, length-append, take-append-drop}
 use Rattle.std.proofs.lemmas.List.{drop-take, take-take, take_at, drop_at}
 use Rattle.std.proofs.lemmas.List.Elements.{All-nil, All-push}
 use Rattle.std.proofs.Math.Seq.{take-add}
@@ -55,7 +56,8 @@ module _ (digest : List ℕ) (len : length digest ≡ 32) where
       let behind = opened states ++ c.gate ∷ c.rest in
       let text : file ≡ (title ++ digest) ++ behind = c.text ∙ append_assoc (title ++ digest) (opened states) (c.gate ∷ c.rest) in
       let header : take 44 file ≡ title ++ digest = ap (take 44) text ∙ take_at (title ++ digest) behind 44 length-header in
-      let long : 45 ≤ length file = omega (arith, ap length text, length-append (title ++ digest) behind, length-header, length-append (opened states) (c.gate ∷ c.rest)) in
+      let long : 45 ≤ length file =
+      omega (arith, ap length text, length-append (title ++ digest) behind, length-header, length-append (opened states) (c.gate ∷ c.rest)) in
       record {
         owned = (
           record {

@@ -95,7 +95,8 @@ closed-closed bytes ss ts c d =
 
 pub closed-breaks : (bytes : List ℕ) (ss ts : List (List ℕ)) → IsClosedAfter bytes ss → BreaksAfter bytes ts → ⊥
 closed-breaks bytes ss ts c b =
-    let same = same_states ss ts (c.closes.gate ∷ c.closes.rest) (1 ∷ b.rest) c.each b.each (closed_ends (opened ss) bytes c.closes) (broken_ends bytes ts b) (sym c.closes.text ∙ b.text) in
+    let same = same_states ss ts (c.closes.gate ∷ c.closes.rest) (1 ∷ b.rest) c.each b.each (closed_ends (opened ss) bytes c.closes) (broken_ends bytes ts b)
+    (sym c.closes.text ∙ b.text) in
     c.closes.closed (one_is c.closes.gate c.closes.rest b.rest same.1).0
 
 pub breaks-breaks : (bytes : List ℕ) (ss ts : List (List ℕ)) → BreaksAfter bytes ss → BreaksAfter bytes ts → ss ≡ ts

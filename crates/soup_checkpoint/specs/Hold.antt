@@ -1,5 +1,6 @@
 -- What the bytes of a checkpoint file say.
-use Rattle.std.specs.Prelude.{◌≡◌, ◌≢◌, ◌⊎◌, ℕ, List, [], ◌∷◌, ◌++◌, codes, length, take, Option, Some, None, Result, Ok, Err}
+use Rattle.std.specs.Prelude.{◌≡◌, ◌≢◌, ◌⊎◌, ℕ, List, [], ◌∷◌, ◌++◌, codes, length, take, Option, Some, None, Result}
+use Rattle.std.specs.Prelude.{Ok, Err}
 use Rattle.sha2.specs.Sha256.{sha256}
 use Rattle.tierra_model.specs.Setups.{SetupFields}
 use Rattle.bank_format.specs.SetupBytes.{setup_bytes}

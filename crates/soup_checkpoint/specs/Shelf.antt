@@ -1,5 +1,6 @@
 -- A shelf, its file, and what its file is at each moment.
-use Rattle.std.specs.Prelude.{◌≡◌, ◌⊎◌, ◌+◌, ◌↔◌, ℕ, All, List, ◌++◌, length, Option, Some, IfSome, IsSomeAnd, option_map, Result, Ok, Err}
+use Rattle.std.specs.Prelude.{◌≡◌, ◌⊎◌, ◌+◌, ◌↔◌, ℕ, All, List, ◌++◌, length, Option, Some, IfSome, IsSomeAnd}
+use Rattle.std.specs.Prelude.{option_map, Result, Ok, Err}
 use Rattle.desk_io.specs.Desk.{DeskState, HasNoFault, HasDiskFault, IsSettled}
 use Rattle.file_journal.specs.Files.{ClosesAfter, header_of}
 use Rattle.file_journal.specs.Steps.{IsUnwritten}

@@ -1,5 +1,6 @@
 -- A soup file of one creature at 0 and of nothing else has the setup that `grow` makes of the listing.
-use Rattle.std.proofs.Common.{◌≡◌, ◌∙◌, ℕ, ◌+◌, ◌-◌, ◌≤◌, Bool, true, false, cond, List, [], ◌∷◌, Some, None, Result, Ok, Err, ap, arith, length, ltb, map, option_map, refl, subst, sym}
+use Rattle.std.proofs.Common.{◌≡◌, ◌∙◌, ℕ, ◌+◌, ◌-◌, ◌≤◌, Bool, true, false, cond, List, [], ◌∷◌, Some, None, Result, Ok, Err, ap, arith, length, ltb, map}
+use Rattle.std.proofs.Common.{option_map, refl, subst, sym}
 use Rattle.std.specs.Prelude.{pos}
 use Rattle.std.specs.List.{enumerate_from}
 use Rattle.std.specs.Result.{result_err}
@@ -17,7 +18,8 @@ use Rattle.tierra_asm.specs.declared.AsmFault.TheVariants.{Empty, TooLong}
 use Rattle.soup_file.specs.declared.key.Key.TheVariants.{At, Code}
 use Rattle.soup_file.specs.Keys.{file_fault, first_fault, in_a_creature, name_of, names_one_of, number_in, read_at, unknown_in, unknown_key}
 use Rattle.soup_file.specs.Settings.{AreSettingsOf, setting_checks, soup_size_of}
-use Rattle.soup_file.specs.Creatures.{all_creature_checks, code_of, creature_tables, in_creature, inoculum_from, inoculum_of, own_checks, past_end, place_of, text_of}
+use Rattle.soup_file.specs.Creatures.{all_creature_checks, code_of, creature_tables, in_creature, inoculum_from, inoculum_of, own_checks, past_end, place_of}
+use Rattle.soup_file.specs.Creatures.{text_of}
 use Rattle.soup_file.specs.SoupFile.{IsDocument, IsSetupOf, IsSoupFile, top_keys}
 use Rattle.soup_file.specs.Laws.{one_creature}
 use Rattle.soup_file.proofs.Checks.{passed}
@@ -35,7 +37,8 @@ after-length v most (Ok xs) code up e =
     subst (λ ys. length ys ≤ most + 1) same (omega arith)
 after-length v most (Err f) code up e = absurd cc
 
-head-length : (r : Result ℕ AsmFault) (rs : List (Result ℕ AsmFault)) (most : ℕ) (code : List ℕ) → ((xs : List ℕ) → all_or_first_error rs ≡ Ok xs → length xs ≤ most)
+head-length : (r : Result ℕ AsmFault) (rs : List (Result ℕ AsmFault)) (most : ℕ) (code : List ℕ)
+    → ((xs : List ℕ) → all_or_first_error rs ≡ Ok xs → length xs ≤ most)
     → all_or_first_error (r ∷ rs) ≡ Ok code → length code ≤ most + 1
 head-length (Ok v) rs most code up e = after-length v most (all_or_first_error rs) code up e
 head-length (Err f) rs most code up e = absurd cc
@@ -48,7 +51,8 @@ refused : (b : Bool) (word : PlacedWord) (other : Result ℕ AsmFault) → b ≡
 refused b word other h = ap (λ x. cond x (Err (TooLong word.line)) other) h
 
 -- the word of this number was not refused for it
-not-too-many : (words : List PlacedWord) (word : PlacedWord) (first : ℕ) (code : List ℕ) → values_from named_code first (word ∷ words) ≡ Ok code → first ≤ MOST_SIZE
+not-too-many : (words : List PlacedWord) (word : PlacedWord) (first : ℕ) (code : List ℕ) → values_from named_code first (word ∷ words) ≡ Ok code
+    → first ≤ MOST_SIZE
 not-too-many words word first code e =
     elim (ltb MOST_SIZE first) as (λ b. ltb MOST_SIZE first ≡ b → first ≤ MOST_SIZE) [
       | true ↦ λ h. absurd
@@ -166,7 +170,8 @@ setup-is : (text code : List ℕ) → listing_of text ≡ Ok code → IsSetupOf 
 setup-is text code e =
     record {
       creatures = own_table text ∷ [];
-      passes = creatures-checks (one_creature text) SOUP_SIZE.default (own_table text ∷ []) (top-known text) (settings-pass text) (size-is text) (tables-are text)
+      passes = creatures-checks (one_creature text) SOUP_SIZE.default (own_table text ∷ []) (top-known text) (settings-pass text) (size-is text)
+          (tables-are text)
           ∙ one-passes text code e;
       settings = settings-are text;
       tables = tables-are text;

@@ -1,5 +1,6 @@
 -- Creatures read in order, each checked after those before it.
-use Rattle.std.proofs.Common.{◌≡◌, ◌∙◌, ℕ, ◌+◌, ◌-◌, ◌<◌, ◌≤◌, List, [], ◌∷◌, ◌++◌, Option, Some, None, ap, ap₂, get_or, length, map, option_map, refl, subst, sym, take, arith, length-append}
+use Rattle.std.proofs.Common.{◌≡◌, ◌∙◌, ℕ, ◌+◌, ◌-◌, ◌<◌, ◌≤◌, List, [], ◌∷◌, ◌++◌, Option, Some, None, ap, ap₂, get_or, length, map, option_map, refl, subst}
+use Rattle.std.proofs.Common.{sym, take, arith, length-append}
 use Rattle.std.specs.Prelude.{flat_map, position}
 use Rattle.std.specs.List.{enumerate_from}
 use Rattle.std.proofs.lemmas.List.{get_or-map, length-map, map_push, take_all, take_more}
@@ -58,7 +59,12 @@ checks-here size ts i cs t r =
     ∙ ap₂ (λ (before : List (Option Inoculum)) (n : ℕ). creature_checks size before (n + 1, t)) (sym r.inocula) (sym r.count)
 
 pub read-none : (size : ℕ) (ts : List Members) → AreRead size ts 0 []
-read-none size ts = record { apart = record { written = λ k d l. absurd (omega arith); placed = λ k d l. absurd (omega arith); apart = λ p. omega arith }; count = refl; inocula = refl; passed = refl }
+read-none size ts = record {
+  apart = record { written = λ k d l. absurd (omega arith); placed = λ k d l. absurd (omega arith); apart = λ p. omega arith };
+  count = refl;
+  inocula = refl;
+  passed = refl;
+}
 
 pub read-more : (size : ℕ) (ts : List Members) (i : ℕ) (cs new : List Inoculum) (t : Members) (c : Inoculum) → i < length ts → t ≡ get_or ts i t
     → AreRead size ts i cs → new ≡ cs ++ c ∷ [] → LieApart size new → inoculum_of size (length cs + 1, t) ≡ Some c
@@ -86,7 +92,8 @@ pub read-fault : (size : ℕ) (ts : List Members) (i : ℕ) (cs : List Inoculum)
     → AreRead size ts i cs → first_fault (creature_checks size (map Some cs) (length cs + 1, t)) ≡ Some f → first_fault (all_creature_checks size ts) ≡ Some f
 read-fault size ts i cs t f l e r fault =
     let within : i < length (enumerate_from 1 ts) = subst (λ n. i < n) (sym (length-enumerate_from 1 ts)) l in
-    failed-at (checks_among size ts) (enumerate_from 1 ts) i (i + 1, t) f within (numbered ts i t l e) r.passed (ap first_fault (checks-here size ts i cs t r) ∙ fault)
+    failed-at (checks_among size ts) (enumerate_from 1 ts) i (i + 1, t) f within (numbered ts i t l e) r.passed
+    (ap first_fault (checks-here size ts i cs t r) ∙ fault)
 
 pub read-all : (size : ℕ) (ts : List Members) (i : ℕ) (cs : List Inoculum) → length ts ≤ i → AreRead size ts i cs
     → (map Some cs ≡ inocula_of size ts) × (first_fault (all_creature_checks size ts) ≡ None)

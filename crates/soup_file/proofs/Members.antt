@@ -1,5 +1,6 @@
 -- The keys of a table, and the least that is not known.
-use Rattle.std.proofs.Common.{◌≡◌, ◌∙◌, ℕ, Bool, true, false, cond, not, List, [], ◌∷◌, ◌++◌, Option, Some, None, option_map, String, Global, string_bytes, string_cmp, Less, Equal, Greater, nat_cmp, refl, ap, sym}
+use Rattle.std.proofs.Common.{◌≡◌, ◌∙◌, ℕ, Bool, true, false, cond, not, List, [], ◌∷◌, ◌++◌, Option, Some, None, option_map, String, Global, string_bytes}
+use Rattle.std.proofs.Common.{string_cmp, Less, Equal, Greater, nat_cmp, refl, ap, sym}
 use Rattle.std.specs.Prelude.{filter, find}
 use Rattle.std.specs.Cmp.Lexicographic.{slice_cmp}
 use Rattle.std.specs.List.{AllByRecursion}
@@ -48,7 +49,8 @@ least-first : (test : List ℕ → Bool) (es : List Entry) → IsStrictlySortedB
 unfolding IsStrictlySortedBy
 least-first test [] h = refl
 least-first test (e ∷ es) h =
-    elim (test (string_bytes e.0)) as (λ b. least (cond b (string_bytes e.0 ∷ filter test (keys_of (members_view es))) (filter test (keys_of (members_view es))))
+    elim (test (string_bytes e.0)) as
+    (λ b. least (cond b (string_bytes e.0 ∷ filter test (keys_of (members_view es))) (filter test (keys_of (members_view es))))
     ≡ option_map string_bytes (cond b (Some e.0) (find (λ k. test (string_bytes k)) (map_keys es)))) [
       | true ↦ ap Some (kept (string_bytes e.0) (least (filter test (keys_of (members_view es)))) (before-rest test e.0 es h.0))
       | false ↦ least-first test es h.1

@@ -4,7 +4,8 @@ use Rattle.std.proofs.Props.{props}
 use mathlib.Core.HLevel.{is_prop→PathP}
 use Rattle.toml.specs.Data.{Members}
 use Rattle.toml.specs.Parse.{parse_document}
-use Rattle.tierra_model.specs.declared.keys.TheConstants.{SOUP_SIZE, SLICE_SIZE, SLICE_NUM, SLICE_DEN, SEARCH_LIMIT, MIN_TEMPLATE, MIN_CELL, MAX_CELL, MAL_MULT, FILL_PERCENT, MOVE_PERCENT, SAVE_AT, DIST_EVERY, DIST_PERCENT}
+use Rattle.tierra_model.specs.declared.keys.TheConstants.{SOUP_SIZE, SLICE_SIZE, SLICE_NUM, SLICE_DEN, SEARCH_LIMIT, MIN_TEMPLATE, MIN_CELL, MAX_CELL, MAL_MULT}
+use Rattle.tierra_model.specs.declared.keys.TheConstants.{FILL_PERCENT, MOVE_PERCENT, SAVE_AT, DIST_EVERY, DIST_PERCENT}
 use Rattle.tierra_model.specs.declared.parameters.Settings.{Settings}
 use Rattle.tierra_model.specs.declared.setups.Inoculum.{Inoculum}
 use Rattle.tierra_model.specs.Setups.{SetupFields}
@@ -60,15 +61,20 @@ one-settings document a b p q =
       dist_percent = dist_percent i;
       soup = is_prop→PathP (λ j. (SOUP_SIZE.least ≤ soup_size j) × (soup_size j ≤ SOUP_SIZE.greatest)) (λ j. Prim.hlevel props) a.soup b.soup i;
       slice = is_prop→PathP (λ j. (SLICE_SIZE.least ≤ slice_size j) × (slice_size j ≤ SLICE_SIZE.greatest)) (λ j. Prim.hlevel props) a.slice b.slice i;
-      by_size = is_prop→PathP (λ j. (SLICE_NUM.least ≤ slice_num j) × (slice_num j ≤ SLICE_NUM.greatest) × (SLICE_DEN.least ≤ slice_den j) × (slice_den j ≤ SLICE_DEN.greatest)) (λ j. Prim.hlevel props) a.by_size b.by_size i;
-      search = is_prop→PathP (λ j. (SEARCH_LIMIT.least ≤ search_limit j) × (search_limit j ≤ SEARCH_LIMIT.greatest)) (λ j. Prim.hlevel props) a.search b.search i;
-      template = is_prop→PathP (λ j. (MIN_TEMPLATE.least ≤ min_template j) × (min_template j ≤ MIN_TEMPLATE.greatest)) (λ j. Prim.hlevel props) a.template b.template i;
-      cells = is_prop→PathP (λ j. (MIN_CELL.least ≤ min_cell j) × (min_cell j ≤ max_cell j) × (max_cell j ≤ MAX_CELL.greatest)) (λ j. Prim.hlevel props) a.cells b.cells i;
+      by_size = is_prop→PathP (λ j. (SLICE_NUM.least ≤ slice_num j) × (slice_num j ≤ SLICE_NUM.greatest) × (SLICE_DEN.least ≤ slice_den j)
+          × (slice_den j ≤ SLICE_DEN.greatest)) (λ j. Prim.hlevel props) a.by_size b.by_size i;
+      search = is_prop→PathP (λ j. (SEARCH_LIMIT.least ≤ search_limit j) × (search_limit j ≤ SEARCH_LIMIT.greatest))
+          (λ j. Prim.hlevel props) a.search b.search i;
+      template = is_prop→PathP (λ j. (MIN_TEMPLATE.least ≤ min_template j) × (min_template j ≤ MIN_TEMPLATE.greatest))
+          (λ j. Prim.hlevel props) a.template b.template i;
+      cells = is_prop→PathP (λ j. (MIN_CELL.least ≤ min_cell j) × (min_cell j ≤ max_cell j) × (max_cell j ≤ MAX_CELL.greatest))
+          (λ j. Prim.hlevel props) a.cells b.cells i;
       mult = is_prop→PathP (λ j. (MAL_MULT.least ≤ mal_mult j) × (mal_mult j ≤ MAL_MULT.greatest)) (λ j. Prim.hlevel props) a.mult b.mult i;
       fill = is_prop→PathP (λ j. (FILL_PERCENT.least ≤ fill_percent j) × (fill_percent j ≤ FILL_PERCENT.greatest)) (λ j. Prim.hlevel props) a.fill b.fill i;
       moving = is_prop→PathP (λ j. move_percent j ≤ MOVE_PERCENT.greatest) (λ j. Prim.hlevel props) a.moving b.moving i;
       saving = is_prop→PathP (λ j. (SAVE_AT.least ≤ save_at j) × (save_at j ≤ SAVE_AT.greatest)) (λ j. Prim.hlevel props) a.saving b.saving i;
-      disturbing = is_prop→PathP (λ j. (dist_every j ≤ DIST_EVERY.greatest) × (dist_percent j ≤ DIST_PERCENT.greatest)) (λ j. Prim.hlevel props) a.disturbing b.disturbing i;
+      disturbing = is_prop→PathP (λ j. (dist_every j ≤ DIST_EVERY.greatest) × (dist_percent j ≤ DIST_PERCENT.greatest))
+          (λ j. Prim.hlevel props) a.disturbing b.disturbing i;
     }
 
 map-some : (xs ys : List Inoculum) → map Some xs ≡ map Some ys → xs ≡ ys

@@ -14,7 +14,8 @@ and_none (Some t) = refl
 -- one that is no table
 pub tables_of-none : (vs : List Value) (i : ℕ) (v : Value) → i < length vs → v ≡ get_or vs i v → as_table (view v) ≡ None → tables_of (items_view vs) ≡ None
 tables_of-none [] i v l e none = absurd (omega arith)
-tables_of-none (w ∷ vs) zero v l e none = ap (λ x. and_tables (as_table (view x)) (tables_of (items_view vs))) (sym e) ∙ ap (λ t. and_tables t (tables_of (items_view vs))) none
+tables_of-none (w ∷ vs) zero v l e none = ap (λ x. and_tables (as_table (view x)) (tables_of (items_view vs)))
+    (sym e) ∙ ap (λ t. and_tables t (tables_of (items_view vs))) none
 tables_of-none (w ∷ vs) (suc i) v l e none =
     ap (and_tables (as_table (view w))) (tables_of-none vs i v (omega arith) e none) ∙ and_none (as_table (view w))
 

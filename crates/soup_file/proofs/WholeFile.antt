@@ -33,7 +33,8 @@ settings-fault document fault known e =
 
 -- where the keys and the settings pass
 after_settings : (document : Members) → unknown_key [] top_keys document ≡ None → first_fault (setting_checks document) ≡ None
-    → first_fault (checks_of document) ≡ first_fault (result_err (creature_tables document) ∷ checks_of_tables (soup_size_of document) (creature_tables document))
+    → first_fault (checks_of document) ≡ first_fault (result_err (creature_tables document)
+    ∷ checks_of_tables (soup_size_of document) (creature_tables document))
 unfolding checks_of after_keys
 after_settings document known e =
     passed (unknown_key [] top_keys document) (after_keys document) known

@@ -1,5 +1,6 @@
 -- The creatures of a soup file.
-use Rattle.std.specs.Prelude.{ℕ, ◌+◌, ◌-◌, ◌≤◌, ◌&&◌, All, Bool, false, List, [], ◌∷◌, ◌++◌, flat_map, if◌then◌else◌, length, map, nat_lt, option_map, position, take, Option, Some, None, Result, Ok, Err}
+use Rattle.std.specs.Prelude.{ℕ, ◌+◌, ◌-◌, ◌≤◌, ◌&&◌, All, Bool, false, List, [], ◌∷◌, ◌++◌, flat_map, if◌then◌else◌}
+use Rattle.std.specs.Prelude.{length, map, nat_lt, option_map, position, take, Option, Some, None, Result, Ok, Err}
 use Rattle.std.specs.List.{enumerate_from}
 use Rattle.std.specs.Result.{result_err}
 use Rattle.toml.specs.Data.{Data, as_array, as_table, Items, no_items, item, Members}

@@ -1,5 +1,6 @@
 -- The keys of a soup file, and what is read at one.
-use Rattle.std.specs.Prelude.{ℕ, ℤ, pos, negsuc, ◌&&◌, Bool, not, nat_le, List, [], ◌∷◌, ◌++◌, codes, filter, if◌then◌else◌, ok_or, option_map, bytes_eq, Option, Some, None, Result, Ok, Err}
+use Rattle.std.specs.Prelude.{ℕ, ℤ, pos, negsuc, ◌&&◌, Bool, not, nat_le, List, [], ◌∷◌, ◌++◌, codes, filter}
+use Rattle.std.specs.Prelude.{if◌then◌else◌, ok_or, option_map, bytes_eq, Option, Some, None, Result, Ok, Err}
 use Rattle.std.specs.Cmp.Lexicographic.{slice_cmp}
 use Rattle.std.specs.List.{list_any}
 use Rattle.std.specs.Ordering.{is_lt, nat_cmp}
@@ -9,7 +10,10 @@ use Rattle.toml.specs.Data.{Data, Members, no_members, member, get_member, as_bo
 use Rattle.soup_file.specs.declared.fault.FileFault.{FileFault}
 use Rattle.soup_file.specs.declared.fault.FileFault.TheVariants as fault
 use Rattle.soup_file.specs.declared.key.Key.{Key}
-use Rattle.soup_file.specs.declared.key.Key.TheVariants.{SoupSize, SliceSize, SliceBySize, SliceNum, SliceDen, SearchLimit, MinTemplate, MinCell, MaxCell, MalMult, FillPercent, MovePercent, SaveAt, BackRate, CopyRate, FlawRate, Seed, DistEvery, DistPercent, Creature, At, Code}
+use Rattle.soup_file.specs.declared.key.Key.TheVariants.{SoupSize, SliceSize, SliceBySize, SliceNum, SliceDen}
+use Rattle.soup_file.specs.declared.key.Key.TheVariants.{SearchLimit, MinTemplate, MinCell, MaxCell, MalMult}
+use Rattle.soup_file.specs.declared.key.Key.TheVariants.{FillPercent, MovePercent, SaveAt, BackRate, CopyRate, FlawRate}
+use Rattle.soup_file.specs.declared.key.Key.TheVariants.{Seed, DistEvery, DistPercent, Creature, At, Code}
 use Rattle.soup_file.specs.declared.key.KeyFault.{KeyFault}
 use Rattle.soup_file.specs.declared.key.KeyFault.TheVariants.{Missing, WrongKind, OutOfRange}
 

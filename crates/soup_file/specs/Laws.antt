@@ -10,15 +10,18 @@ use Rattle.soup_file.specs.SoupFile.{IsDocument, IsFaultOf, IsSoupFile}
 
 -- bytes spell at most one setup and have at most one fault, and never both
 pub record SoupFilesAreClear : Type 0 where
-  pub one_setup : (bytes : List ℕ) (one other : SetupFields) → IsSoupFile bytes one → IsSoupFile bytes other → one ≡ other
+  pub one_setup : (bytes : List ℕ) (one other : SetupFields) → IsSoupFile bytes one → IsSoupFile bytes other
+      → one ≡ other
   pub one_fault : (bytes : List ℕ) (one other : FileFault) → IsFaultOf bytes one → IsFaultOf bytes other → one ≡ other
-  pub no_fault : (bytes : List ℕ) (setup : SetupFields) (fault : FileFault) → IsSoupFile bytes setup → IsFaultOf bytes fault → ⊥
+  pub no_fault : (bytes : List ℕ) (setup : SetupFields) (fault : FileFault) → IsSoupFile bytes setup
+      → IsFaultOf bytes fault → ⊥
 
 -- the document with one creature at 0 with this listing, and nothing else
 abbrev pub one_creature : List ℕ → Members
 one_creature text =
     member (name_of Creature)
-    (array (item (table (member (name_of At) (integer (pos 0)) (member (name_of Code) (string text) no_members))) no_items))
+    (array (item (table (member (name_of At) (integer (pos 0)) (member (name_of Code) (string text) no_members)))
+    no_items))
     no_members
 
 -- The bytes of that document spell the setup that `grow` makes from the listing, and no other.

@@ -3,10 +3,16 @@ use Rattle.std.specs.Prelude.{ℕ, ◌≡◌, Bool, List, [], ◌∷◌, if◌th
 use Rattle.std.specs.Result.{result_err}
 use Rattle.toml.specs.Data.{Members}
 use Rattle.tierra_model.specs.declared.keys.Number.{Number}
-use Rattle.tierra_model.specs.declared.keys.TheConstants.{SOUP_SIZE, SLICE_SIZE, SLICE_BY_SIZE, SLICE_NUM, SLICE_DEN, SEARCH_LIMIT, MIN_TEMPLATE, MIN_CELL, MAX_CELL, MAL_MULT, FILL_PERCENT, MOVE_PERCENT, SAVE_AT, BACK_RATE, COPY_RATE, FLAW_RATE, SEED, DIST_EVERY, DIST_PERCENT}
+use Rattle.tierra_model.specs.declared.keys.TheConstants.{SOUP_SIZE, SLICE_SIZE, SLICE_BY_SIZE, SLICE_NUM, SLICE_DEN}
+use Rattle.tierra_model.specs.declared.keys.TheConstants.{SEARCH_LIMIT, MIN_TEMPLATE, MIN_CELL, MAX_CELL, MAL_MULT}
+use Rattle.tierra_model.specs.declared.keys.TheConstants.{FILL_PERCENT, MOVE_PERCENT, SAVE_AT, BACK_RATE, COPY_RATE}
+use Rattle.tierra_model.specs.declared.keys.TheConstants.{FLAW_RATE, SEED, DIST_EVERY, DIST_PERCENT}
 use Rattle.tierra_model.specs.declared.parameters.Settings.{Settings}
 use Rattle.soup_file.specs.declared.key.Key.{Key}
-use Rattle.soup_file.specs.declared.key.Key.TheVariants.{SoupSize, SliceSize, SliceBySize, SliceNum, SliceDen, SearchLimit, MinTemplate, MinCell, MaxCell, MalMult, FillPercent, MovePercent, SaveAt, BackRate, CopyRate, FlawRate, Seed, DistEvery, DistPercent}
+use Rattle.soup_file.specs.declared.key.Key.TheVariants.{SoupSize, SliceSize, SliceBySize, SliceNum, SliceDen}
+use Rattle.soup_file.specs.declared.key.Key.TheVariants.{SearchLimit, MinTemplate, MinCell, MaxCell, MalMult}
+use Rattle.soup_file.specs.declared.key.Key.TheVariants.{FillPercent, MovePercent, SaveAt, BackRate, CopyRate, FlawRate}
+use Rattle.soup_file.specs.declared.key.Key.TheVariants.{Seed, DistEvery, DistPercent}
 use Rattle.soup_file.specs.declared.key.KeyFault.{KeyFault}
 use Rattle.soup_file.specs.declared.key.KeyFault.TheVariants.{OutOfRange}
 use Rattle.soup_file.specs.Keys.{bytes_in, flag_in, number_in, read_at}

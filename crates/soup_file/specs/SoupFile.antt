@@ -1,5 +1,6 @@
 -- The setup that a soup file spells, and the fault of bytes that are no soup file.
-use Rattle.std.specs.Prelude.{ℕ, ◌≡◌, ◌⊎◌, List, [], ◌∷◌, ◌++◌, IsUtf8, map, option_map, Option, Some, None, Result, Ok, Err}
+use Rattle.std.specs.Prelude.{ℕ, ◌≡◌, ◌⊎◌, List, [], ◌∷◌, ◌++◌, IsUtf8, map, option_map, Option, Some, None, Result, Ok}
+use Rattle.std.specs.Prelude.{Err}
 use Rattle.std.specs.Result.{result_err}
 use Rattle.toml.specs.Data.{Members}
 use Rattle.toml.specs.Parse.{parse_document}
@@ -7,7 +8,10 @@ use Rattle.tierra_model.specs.Setups.{SetupFields}
 use Rattle.soup_file.specs.declared.fault.FileFault.{FileFault}
 use Rattle.soup_file.specs.declared.fault.FileFault.TheVariants.{NotToml}
 use Rattle.soup_file.specs.declared.key.Key.{Key}
-use Rattle.soup_file.specs.declared.key.Key.TheVariants.{SoupSize, SliceSize, SliceBySize, SliceNum, SliceDen, SearchLimit, MinTemplate, MinCell, MaxCell, MalMult, FillPercent, MovePercent, SaveAt, BackRate, CopyRate, FlawRate, Seed, DistEvery, DistPercent, Creature}
+use Rattle.soup_file.specs.declared.key.Key.TheVariants.{SoupSize, SliceSize, SliceBySize, SliceNum, SliceDen}
+use Rattle.soup_file.specs.declared.key.Key.TheVariants.{SearchLimit, MinTemplate, MinCell, MaxCell, MalMult}
+use Rattle.soup_file.specs.declared.key.Key.TheVariants.{FillPercent, MovePercent, SaveAt, BackRate, CopyRate, FlawRate}
+use Rattle.soup_file.specs.declared.key.Key.TheVariants.{Seed, DistEvery, DistPercent, Creature}
 use Rattle.soup_file.specs.declared.key.KeyFault.{KeyFault}
 use Rattle.soup_file.specs.Keys.{file_fault, first_fault, unknown_key}
 use Rattle.soup_file.specs.Settings.{AreSettingsOf, setting_checks, soup_size_of}
@@ -21,7 +25,8 @@ IsDocument bytes document = IsUtf8 bytes × (parse_document bytes ≡ Some docum
 abbrev pub top_keys : List Key
 top_keys =
     SoupSize ∷ SliceSize ∷ SliceBySize ∷ SliceNum ∷ SliceDen ∷ SearchLimit ∷ MinTemplate ∷ MinCell ∷ MaxCell ∷ MalMult
-    ∷ FillPercent ∷ MovePercent ∷ SaveAt ∷ BackRate ∷ CopyRate ∷ FlawRate ∷ Seed ∷ DistEvery ∷ DistPercent ∷ Creature ∷ []
+    ∷ FillPercent ∷ MovePercent ∷ SaveAt ∷ BackRate ∷ CopyRate ∷ FlawRate ∷ Seed ∷ DistEvery ∷ DistPercent ∷ Creature
+    ∷ []
 
 abbrev pub checks_of_tables : Result ℕ KeyFault → Result (List Members) FileFault → List (Option FileFault)
 checks_of_tables (Ok size) (Ok creatures) = all_creature_checks size creatures

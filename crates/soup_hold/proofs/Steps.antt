@@ -1,5 +1,6 @@
 -- One checkpoint more of a run.
-use Rattle.std.proofs.Common.{◌≡◌, ◌∙◌, inl, inr, refl, sym, ap, subst, arith, ℕ, zero, suc, add-one, ◌+◌, ◌-◌, ◌≤◌, List, [], ◌∷◌, ◌++◌, length, length-append, take, drop, append-nil, take-append-drop, append_assoc, Option, Some, Ok, All}
+use Rattle.std.proofs.Common.{◌≡◌, ◌∙◌, inl, inr, refl, sym, ap, subst, arith, ℕ, zero, suc, add-one, ◌+◌, ◌-◌, ◌≤◌, List, [], ◌∷◌, ◌++◌, length, length-append}
+use Rattle.std.proofs.Common.{take, drop, append-nil, take-append-drop, append_assoc, Option, Some, Ok, All}
 use Rattle.std.specs.Prelude.{IfSome, IsSomeAnd, slice_get}
 use Rattle.std.proofs.lemmas.List.{at_drop_more, length-take, take-take, take_more}
 use Rattle.std.proofs.lemmas.List.Concat.{flat_map-append}
@@ -129,7 +130,8 @@ module _ (owner : Owner) (first : World) (quanta : List ℕ) where
         (λ file is.
         let now = at_file old.reads (λ (f : List ℕ). IsSomeAnd mid.reads (HoldsAfter owner (SaysSame owner f) first quanta j)) file is so_far.holds in
         let there = told_now mid.reads (HoldsAfter owner (SaysSame owner file) first quanta j) now in
-        let on = at_file mid.reads (λ (f : List ℕ). Elapses mid new (IsHoldingNext s.owner f (world_at first q) (held_line q) mid.told)) there.0 there.1 moments in
+        let on = at_file mid.reads (λ (f : List ℕ). Elapses mid new (IsHoldingNext s.owner f (world_at first q) (held_line q) mid.told)) there.0 there.1
+        moments in
         let owned = subst (λ (o : Owner). Elapses mid new (IsHoldingNext o there.0 (world_at first q) (held_line q) mid.told)) so_far.owner_is on in
         Elapses-then (at_file old.reads (λ (f : List ℕ). Elapses old mid (Holding f old.told)) file is so_far.time)
         (Elapses-weaker (λ image text next.
@@ -144,7 +146,8 @@ module _ (owner : Owner) (first : World) (quanta : List ℕ) where
         let there = told_now mid.reads (HoldsAfter owner (SaysSame owner file) first quanta j) now in
         let here = at_file mid.reads (λ (f : List ℕ). IsSomeAnd new.reads (HoldsWorld s.owner (world_at first q))) there.0 there.1 holds in
         let owned = subst (λ (o : Owner). IsSomeAnd new.reads (HoldsWorld o (world_at first q))) so_far.owner_is here in
-        let next = now_told new.reads (HoldsWorld owner (world_at first q)) (HoldsAfter owner (SaysSame owner file) first quanta (suc j)) (λ f h. (q, at, h)) owned in
+        let next = now_told new.reads (HoldsWorld owner (world_at first q)) (HoldsAfter owner (SaysSame owner file) first quanta (suc j))
+        (λ f h. (q, at, h)) owned in
         subst (λ (k : ℕ). IsSomeAnd new.reads (HoldsAfter owner (SaysSame owner file) first quanta k)) (sym (add-one j)) next)
 
     pub next_has_held : (t : ShelfState) (v : World) → HoldsNext s (world_at first q) mid new t → v ≡ world_at first q
@@ -164,7 +167,8 @@ module _ (owner : Owner) (first : World) (quanta : List ℕ) where
         → CountsStop cause new → HasStopped owner first quanta old new cause
     next_has_stopped cause large partly counts = record {
       large = large_first first quanta j q cause at so_far.small large;
-      partly = piece_begun (held_line q) (held_lines (drop (j + 1) quanta)) (lines-rest quanta j q at) (lines_told quanta j old.told mid.told so_far.told) partly;
+      partly = piece_begun (held_line q) (held_lines (drop (j + 1) quanta)) (lines-rest quanta j q at)
+          (lines_told quanta j old.told mid.told so_far.told) partly;
       time = time_on;
       counts = counts;
     }

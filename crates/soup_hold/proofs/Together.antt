@@ -13,7 +13,8 @@ use Rattle.soup_checkpoint.specs.Hold.{HoldSays, owner_of, title}
 use Rattle.soup_checkpoint.specs.Shelf.{IsOfFile, Refuses, SaysAsBefore, SaysSame, ShelfState}
 use Rattle.soup_hold.specs.declared.stop.HoldStop.{HoldStop}
 use Rattle.soup_hold.specs.declared.stop.HoldStop.TheVariants as stop
-use Rattle.soup_hold.specs.Holding.{AppendedLess, CanHold, DiskHolds, GoesOnFrom, HoldsState, IsBeyond, IsCutShort, IsEarly, IsFirst, IsHolding, IsHoldText, IsSmall, RefusesHold}
+use Rattle.soup_hold.specs.Holding.{AppendedLess, CanHold, DiskHolds, GoesOnFrom, HoldsState, IsBeyond, IsCutShort, IsEarly, IsFirst, IsHolding, IsHoldText}
+use Rattle.soup_hold.specs.Holding.{IsSmall, RefusesHold}
 use Rattle.soup_hold.specs.Ending.{IsDone, IsRefused, IsStopped}
 use Rattle.soup_hold.specs.Steps.{Begins, IsLargeFirst}
 use Rattle.soup_hold.specs.Stops.{IfRefused, UnlessTelling}
@@ -113,7 +114,8 @@ module _ (setup : SetupFields) (n every : ℕ) (old : DeskState) where
         let there = begins_there setup held first w old mid s disk is b in
         let owned = subst (λ (o : Owner). IfSome mid.reads (λ file. Elapses mid new (IsHolding o (SaysSame o file) w (held_quanta every w.quanta n) mid.told)))
         b.owner_is time in
-        let mine = subst (λ (v : World). IfSome mid.reads (λ file. Elapses mid new (IsHolding (owner_of setup) (SaysSame (owner_of setup) file) v (held_quanta every v.quanta n) mid.told)))
+        let mine = subst (λ (v : World). IfSome mid.reads
+        (λ file. Elapses mid new (IsHolding (owner_of setup) (SaysSame (owner_of setup) file) v (held_quanta every v.quanta n) mid.told)))
         (sym there.0) owned in
         let quanta = held_quanta every first.quanta n in
         Elapses-then (beginning_time setup held first quanta old mid disk uses)

@@ -1,5 +1,6 @@
 -- A whole run, from its file to its report.
-use Rattle.std.proofs.Common.{◌≡◌, ◌∙◌, ◌⊎◌, inl, inr, refl, sym, ap, subst, arith, ℕ, zero, suc, ◌-◌, ◌<◌, List, [], ◌++◌, length, take, append-nil, Option, Some, None, Result, Ok}
+use Rattle.std.proofs.Common.{◌≡◌, ◌∙◌, ◌⊎◌, inl, inr, refl, sym, ap, subst, arith, ℕ, zero, suc, ◌-◌, ◌<◌, List, [], ◌++◌, length, take, append-nil, Option}
+use Rattle.std.proofs.Common.{Some, None, Result, Ok}
 use Rattle.std.specs.Prelude.{IfSome, IsSomeAnd}
 use Rattle.std.proofs.lemmas.List.{take_all}
 use Rattle.desk_io.specs.Desk.{Appended, DeskState, Elapses, Tells, UsesDisk}
@@ -52,7 +53,8 @@ module _ (owner : Owner) (first : World) (quanta : List ℕ) where
       (report file : List ℕ) → old.reads ≡ Some file → HasHeld owner first quanta old mid (length quanta) s w
       → Tells mid new report result → Elapses mid new (Holding file old.told)
   telling_time {old = old} {mid = mid} new report file is so_far tells =
-      let now = at_file old.reads (λ (f : List ℕ). IsSomeAnd mid.reads (HoldsAfter owner (SaysSame owner f) first quanta (length quanta))) file is so_far.holds in
+      let now = at_file old.reads (λ (f : List ℕ). IsSomeAnd mid.reads (HoldsAfter owner (SaysSame owner f) first quanta (length quanta))) file is so_far.holds
+      in
       let there = told_now mid.reads (HoldsAfter owner (SaysSame owner file) first quanta (length quanta)) now in
       Elapses-weaker (λ image text m.
       let image_is = at_file mid.reads (λ (f : List ℕ). (i : List ℕ) → mid.may_leave i → i ≡ f) there.0 there.1 so_far.attached.settled.durable image
@@ -123,7 +125,8 @@ module _ (setup : SetupFields) (held : Option (List ℕ)) (first : World) (quant
       → Elapses mid new (HoldingOn old.told)
   going_on_time old mid new told_is still time =
       let there = told_now mid.reads (HoldsState setup held) still in
-      let on = at_file mid.reads (λ (f : List ℕ). Elapses mid new (IsHolding (owner_of setup) (SaysSame (owner_of setup) f) first quanta mid.told)) there.0 there.1 time in
+      let on = at_file mid.reads (λ (f : List ℕ). Elapses mid new (IsHolding (owner_of setup) (SaysSame (owner_of setup) f) first quanta mid.told)) there.0
+      there.1 time in
       Elapses-weaker (λ image text m. record {
         j = m.j;
         piece = m.piece;

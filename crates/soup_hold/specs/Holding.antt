@@ -1,5 +1,6 @@
 -- What the file of a run that keeps checkpoints holds, what is told, and why a file is refused.
-use Rattle.std.specs.Prelude.{All, IfSome, List, None, Option, Some, Err, Ok, length, slice_get, suc, take, zero, ℕ, ◌++◌, ◌-◌, ◌<◌, ◌^◌, ◌≡◌, ◌≤◌, ◌⊎◌}
+use Rattle.std.specs.Prelude.{All, IfSome, List, None, Option, Some, Err, Ok, length, slice_get, suc, take, zero, ℕ}
+use Rattle.std.specs.Prelude.{◌++◌, ◌-◌, ◌<◌, ◌^◌, ◌≡◌, ◌≤◌, ◌⊎◌}
 use Rattle.desk_io.specs.Desk.{Appended}
 use Rattle.soup_checkpoint.specs.declared.faults.HoldFault.{HoldFault}
 use Rattle.soup_checkpoint.specs.declared.faults.HoldFault.TheVariants as fault
@@ -117,8 +118,8 @@ abbrev pub BeginsWithText : List ℕ → List ℕ → Type 0
 BeginsWithText piece text = (rest : List ℕ) × (text ≡ piece ++ rest)
 
 -- At a moment of a run: the image holds the world after the last of the first j quanta. All lines before the line of
--- that quantum were told, and none after it. With j = 0 the image is as at the start, and while there are lines to tell,
--- nothing was told.
+-- that quantum were told, and none after it. With j = 0 the image is as at the start, and while there are lines to
+-- tell, nothing was told.
 pub record IsHolding (owner : Owner) (AsAtStart : List ℕ → Type 0) (first : World) (quanta : List ℕ)
     (before : Option (List ℕ)) (image text : List ℕ) : Type 0 where
   pub j : ℕ

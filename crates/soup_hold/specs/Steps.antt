@@ -1,5 +1,6 @@
 -- How a run gets from one checkpoint to the next.
-use Rattle.std.specs.Prelude.{All, IfSome, IsSomeAnd, List, Option, Some, length, slice_get, suc, take, zero, ℕ, ◌≡◌, ◌⊎◌, ◌^◌, ◌≤◌}
+use Rattle.std.specs.Prelude.{All, IfSome, IsSomeAnd, List, Option, Some, length, slice_get, suc, take, zero, ℕ, ◌≡◌}
+use Rattle.std.specs.Prelude.{◌⊎◌, ◌^◌, ◌≤◌}
 use Rattle.desk_io.specs.Desk.{Appended, AppendedSome, DeskState, Elapses}
 use Rattle.soup_checkpoint.specs.declared.owner.Owner.{Owner}
 use Rattle.soup_checkpoint.specs.Hold.{owner_of}
@@ -60,7 +61,8 @@ IsLargeFirst first quanta f =
     × IsLargeAt (world_at first q) q f
 
 -- The run stopped before all of the worlds were appended and their lines told.
-pub record HasStopped (owner : Owner) (first : World) (quanta : List ℕ) (old now : DeskState) (cause : HoldStop) : Type 0 where
+pub record HasStopped (owner : Owner) (first : World) (quanta : List ℕ) (old now : DeskState)
+    (cause : HoldStop) : Type 0 where
   pub large : IfRefused cause (IsLargeFirst first quanta)
   pub partly : AppendedSome old.told (held_lines quanta) now.told
   pub time : IfSome old.reads (λ file. Elapses old now (IsHolding owner (SaysSame owner file) first quanta old.told))

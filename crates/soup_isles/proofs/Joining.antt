@@ -1,5 +1,6 @@
 -- One who comes to the others.
-use Rattle.std.proofs.Common.{◌≡◌, ℕ, ◌+◌, ◌-◌, ◌<◌, ◌≤◌, Bool, true, false, List, [], ◌∷◌, ◌++◌, refl, sym, ◌∙◌, ap, arith, length, length-append, subst, suc, take, drop, drop-cons, get_or}
+use Rattle.std.proofs.Common.{◌≡◌, ℕ, ◌+◌, ◌-◌, ◌<◌, ◌≤◌, Bool, true, false, List, [], ◌∷◌, ◌++◌, refl, sym, ◌∙◌, ap, arith, length, length-append, subst, suc}
+use Rattle.std.proofs.Common.{take, drop, drop-cons, get_or}
 use Rattle.std.specs.Prelude.{All, Some, not, ◌||◌, ◌&&◌}
 use Rattle.std.proofs.lemmas.Bool.Decides.{nat_tests}
 use Rattle.std.proofs.lemmas.List.{take-append-drop, take_more}
@@ -23,7 +24,8 @@ use Rattle.soup_isles.specs.Isles.{is_settled}
 abbrev pub settled : List Inoculum → ℕ → ℕ
 settled creatures p = sum_of (λ c. one_if (is_in (block_of c) p)) creatures
 
-settled-case : (cs : List Inoculum) (b : Bool) (p : ℕ) → (is_settled cs p ≡ false → settled cs p ≡ 0) → (b || is_settled cs p) ≡ false → one_if b + settled cs p ≡ 0
+settled-case : (cs : List Inoculum) (b : Bool) (p : ℕ) → (is_settled cs p ≡ false → settled cs p ≡ 0) → (b || is_settled cs p) ≡ false
+    → one_if b + settled cs p ≡ 0
 settled-case cs true p rest h = (let no : true ≡ false = h in cc)
 settled-case cs false p rest h = omega (arith, rest h)
 
@@ -31,7 +33,8 @@ pub settled-none : (creatures : List Inoculum) (p : ℕ) → is_settled creature
 settled-none [] p h = refl
 settled-none (c ∷ cs) p h = settled-case cs (is_in (block_of c) p) p (settled-none cs p) h
 
-none-case : (cs : List Inoculum) (b : Bool) (p : ℕ) → (settled cs p ≡ 0 → is_settled cs p ≡ false) → one_if b + settled cs p ≡ 0 → (b || is_settled cs p) ≡ false
+none-case : (cs : List Inoculum) (b : Bool) (p : ℕ) → (settled cs p ≡ 0 → is_settled cs p ≡ false) → one_if b + settled cs p ≡ 0
+    → (b || is_settled cs p) ≡ false
 none-case cs true p rest h = absurd (omega arith)
 none-case cs false p rest h = rest (omega arith)
 
@@ -113,4 +116,5 @@ pub taken-next : (n : ℕ) (xs : List Inoculum) (i : ℕ) (x : Inoculum) → i <
 taken-next n xs i x h e =
     taken-runs_of n (is_settled (take i xs)) (block_of x)
     ∙ runs_of-alike n (λ p. not (is_settled (take i xs) p || is_in (block_of x) p)) (λ p. not (is_settled (take (i + 1) xs) p)) (λ q below.
-    ap not (sym (settled-more (take i xs) x q) ∙ ap (λ (l : List Inoculum). is_settled l q) (sym (take_more xs i x h ∙ ap (λ (c : Inoculum). take i xs ++ c ∷ []) (sym e)))))
+    ap not (sym (settled-more (take i xs) x q) ∙ ap (λ (l : List Inoculum). is_settled l q)
+    (sym (take_more xs i x h ∙ ap (λ (c : Inoculum). take i xs ++ c ∷ []) (sym e)))))

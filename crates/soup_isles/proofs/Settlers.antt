@@ -57,7 +57,9 @@ sum-some f g h (x ∷ xs) living once all each =
     let here = each x (grind (arith, nat_tests)) in
     let left : List Creature = without x living in
     let none : times_in xs x ≡ 0 = (let o = once x in grind (arith, nat_tests)) in
-    let rest = sum-some f g h xs left (λ id. (let o = once id in grind (arith, nat_tests))) (fewer living x all) (λ id there. other g h f living x id (λ e. absurd (omega (arith, none, subst (λ (k : ℕ). 0 < times_in xs k) e there))) (each id (grind (arith, nat_tests)))) in
+    let rest = sum-some f g h xs left (λ id. (let o = once id in grind (arith, nat_tests))) (fewer living x all)
+    (λ id there. other g h f living x id (λ e. absurd (omega (arith, none, subst (λ (k : ℕ). 0 < times_in xs k) e there)))
+    (each id (grind (arith, nat_tests)))) in
     omega (arith, rest, here.1, sum_of-without f living x (is_here-times living x here.0) (all x))
 
 -- ---- those who live

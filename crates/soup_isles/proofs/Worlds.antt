@@ -28,7 +28,8 @@ settings_of_worlds worlds = map (λ w. w.settings) worlds
 abbrev pub settings_of_setups : List SetupFields → List Settings
 settings_of_setups setups = map (λ s. s.settings) setups
 
-pub worlds-settings : (setups : List SetupFields) (n : ℕ) → n ≤ MOST_QUANTA → All IsSetup setups → settings_of_worlds (worlds_of setups n) ≡ settings_of_setups setups
+pub worlds-settings : (setups : List SetupFields) (n : ℕ) → n ≤ MOST_QUANTA → All IsSetup setups
+    → settings_of_worlds (worlds_of setups n) ≡ settings_of_setups setups
 worlds-settings [] n few all = refl
 worlds-settings (s ∷ ss) n few all =
     let r : IsSerialRun s n = serial_is_sound s n (All-head IsSetup s ss all) few in

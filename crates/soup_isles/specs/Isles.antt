@@ -1,7 +1,8 @@
 -- Isles: soups side by side, which run in epochs. Each isle begins an epoch anew, with those who lived in it and a
 -- migrant from the isle before it. Isles and epochs are numbered from 1, and places in a list are counted from 0.
 use Rattle.std.specs.List.{list_any, range_with_len}
-use Rattle.std.specs.Prelude.{Bool, List, None, Some, [], if◌then◌else◌, length, map, slice_index_or, slice_range, ℕ, ◌++◌, ◌+◌, ◌-◌, ◌==◌, ◌∷◌}
+use Rattle.std.specs.Prelude.{Bool, List, None, Some, [], if◌then◌else◌, length, map, slice_index_or, slice_range, ℕ}
+use Rattle.std.specs.Prelude.{◌++◌, ◌+◌, ◌-◌, ◌==◌, ◌∷◌}
 use Rattle.sha2.specs.Sha256.{sha256}
 use Rattle.tierra_model.specs.declared.creatures.Creature.{Creature}
 use Rattle.tierra_model.specs.declared.parameters.Settings.{Settings}
@@ -70,7 +71,8 @@ unfoldable pub next_creatures : List World → ℕ → List Inoculum
 next_creatures worlds place =
     let w = world_at worlds place in
     if length worlds == 1 then settlers w
-    else with_migrant w.settings.soup_size (settlers w) (emigrant (world_at worlds (place_before (length worlds) place)))
+    else with_migrant w.settings.soup_size (settlers w)
+    (emigrant (world_at worlds (place_before (length worlds) place)))
 
 -- the settings of the isle, with its seed in the epoch, and who begins it
 unfoldable pub next_setup : List SetupFields → List World → List ℕ → ℕ → ℕ → SetupFields

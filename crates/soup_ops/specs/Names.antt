@@ -2,7 +2,10 @@
 use Rattle.std.specs.Prelude.{List, ℕ, Option, codes, position}
 use Rattle.std.specs.Str.{bytes_eq}
 use Rattle.tierra_model.specs.declared.ops.Op.{Op}
-use Rattle.tierra_model.specs.declared.ops.Op.TheVariants.{Adr, AdrB, AdrF, Call, DecC, Divide, IfCz, IncA, IncB, IncC, Jmp, JmpB, Mal, MovAb, MovCd, MovIab, Nop0, Nop1, Or1, PopAx, PopBx, PopCx, PopDx, PushAx, PushBx, PushCx, PushDx, Ret, Shl, SubAb, SubAc, Zero}
+use Rattle.tierra_model.specs.declared.ops.Op.TheVariants.{Adr, AdrB, AdrF, Call, DecC, Divide, IfCz, IncA, IncB, IncC}
+use Rattle.tierra_model.specs.declared.ops.Op.TheVariants.{Jmp, JmpB, Mal, MovAb, MovCd, MovIab, Nop0, Nop1, Or1, PopAx}
+use Rattle.tierra_model.specs.declared.ops.Op.TheVariants.{PopBx, PopCx, PopDx, PushAx, PushBx, PushCx, PushDx, Ret}
+use Rattle.tierra_model.specs.declared.ops.Op.TheVariants.{Shl, SubAb, SubAc, Zero}
 use Rattle.tierra_model.specs.Table.{ops}
 
 -- the name of an instruction

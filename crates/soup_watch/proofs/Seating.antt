@@ -6,7 +6,7 @@ use mathlib.Core.Logic.{dite}
 use native.Mathlib.Decide.{ℕ_discrete}
 use Rattle.turn_lock.specs.Seat.{LockFields, SeatFields, SpeaksForAll, own_of}
 use Rattle.crew.specs.Works.{HasWorked, IsFirst, IsOther}
-use Rattle.soup_watch.specs.Seats.{IsDone, IsJoined, IsLead}
+use Rattle.soup_watch.specs.Seats.{IsDone, IsJoined, IsLead, observer_turns, worker_turns}
 use Rattle.tierra_model.specs.declared.limits.TheConstants.{MOST_QUANTA}
 
 pub other_done : (at : LockFields) (caller n : ℕ) (s t : SeatFields) → n ≤ MOST_QUANTA → IsOther at caller s → HasWorked (2 * n + 2) s t
@@ -27,7 +27,7 @@ first_done at observer n s t few f w = record {
   speaks = w.speaks 1 ∙ f.first;
 }
 
-pub observer_done : (at : LockFields) (observer : ℕ) (s t : SeatFields) → IsOther at observer s → HasWorked 500000001000 s t → IsJoined at observer observer t
+pub observer_done : (at : LockFields) (observer : ℕ) (s t : SeatFields) → IsOther at observer s → HasWorked observer_turns s t → IsJoined at observer observer t
 observer_done at observer s t o w = record {
   lock = w.lock ∙ o.lock;
   last = w.last ∙ o.last;
@@ -74,6 +74,6 @@ speaks_all at observer s t u j l last own =
 
 -- worker 1's seat after one turn more
 pub lead_worked : (at : LockFields) (observer m : ℕ) (s t : SeatFields) → IsLead at observer s → HasWorked m s t
-    → (t.lock ≡ at) × (t.last_caller ≡ Some observer) × (is_some (own_of t 1) ≡ true) × (t.turns ≤ 8000002 + m)
+    → (t.lock ≡ at) × (t.last_caller ≡ Some observer) × (is_some (own_of t 1) ≡ true) × (t.turns ≤ worker_turns + m)
 lead_worked at observer m s t l w =
     (w.lock ∙ l.lock, w.last ∙ l.last, w.speaks 1 ∙ l.speaks, omega (arith, w.turns, l.turns))

@@ -35,7 +35,8 @@ ends setup n looks =
     let s = sight_of (serial setup n) in
     let here : length (all_the_end setup n looks) - 1 ≡ looks = omega (arith, long setup n looks) in
     ap (λ (i : ℕ). slice_get (all_the_end setup n looks) i) here
-    ∙ slice_get_read (all_the_end setup n looks) (looks + 1) looks s (sym (long setup n looks)) (omega arith) (sym (same_at setup n looks looks s (omega arith)))
+    ∙ slice_get_read (all_the_end setup n looks) (looks + 1) looks s (sym (long setup n looks)) (omega arith)
+    (sym (same_at setup n looks looks s (omega arith)))
 
 pub some_watch_text : (setup : SetupFields) (n looks : ℕ) → (text : List ℕ) × IsWatchText setup n looks text
 some_watch_text setup n looks =

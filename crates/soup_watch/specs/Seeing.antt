@@ -10,7 +10,11 @@ use Rattle.soup_watch.specs.declared.sight.Sight.{Sight}
 
 -- how many of genotype k live, and how many ever lived
 abbrev pub count_of : World → ℕ → Count
-count_of w k = record { name = name_of w.genotypes k; living = number_with w.living k; total = (genotype_at w.genotypes k).total }
+count_of w k = record {
+  name = name_of w.genotypes k;
+  living = number_with w.living k;
+  total = (genotype_at w.genotypes k).total;
+}
 
 abbrev pub lives : Count → Bool
 lives c = nat_lt 0 c.living

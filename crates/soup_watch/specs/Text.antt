@@ -11,7 +11,8 @@ count_line c = name_text c.name ++ codes " " ++ decimal c.living ++ codes " " ++
 
 abbrev pub head_line : Sight → List ℕ
 head_line s =
-    codes "sight quanta " ++ decimal s.quanta ++ codes " births " ++ decimal s.births ++ codes " deaths " ++ decimal s.deaths
+    codes "sight quanta " ++ decimal s.quanta ++ codes " births " ++ decimal s.births ++ codes " deaths "
+    ++ decimal s.deaths
     ++ codes " living " ++ decimal s.living ++ codes "\n"
 
 -- the line of a sight, and a line for each genotype in it

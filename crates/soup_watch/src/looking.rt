@@ -51,6 +51,7 @@ fn sight_in(alloc: Global, book: &Book) -> Result<Sight, OutOfMemory>
     ensures sight { IfOk result (λ s. s ≡ sight_of (world_of book.now)) }
     ensures quanta { IfOk result (λ s. s.quanta ≡ book.now.committed) }
 {
+    // The next three are asked for their contracts alone.
     let _soup_size = book.setup().settings.soup_size;
     let _committed = book.committed();
     let _quanta = book.quanta();

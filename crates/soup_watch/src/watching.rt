@@ -8,7 +8,7 @@ ghost use Rattle.commit_book.specs.Book.{world_of};
 ghost use Rattle.commit_book.specs.Giving.{MayGive};
 ghost use Rattle.crew.specs.Works.{HasWorked, IsFirst, IsOther, IsThere};
 ghost use Rattle.report_text.specs.Report.{report};
-ghost use Rattle.soup_watch.specs.Seats.{HasSeen, IsDone, IsJoined, IsLead, IsWatched};
+ghost use Rattle.soup_watch.specs.Seats.{HasSeen, IsDone, IsJoined, IsLead, IsWatched, observer_turns};
 ghost use Rattle.soup_watch.specs.Text.{sights_text};
 ghost use Rattle.soup_watch.specs.Watching.{AreSights, IsWatchText};
 
@@ -112,7 +112,7 @@ fn observe<R: Wait>(
     requires lock { seat.lock ≡ lock.now }
     requires turns { seat.turns ≡ 0 }
     requires few { (quanta ≤ MOST_QUANTA) × (looks ≤ MOST_LOOKS) }
-    ensures worked { IfOk result (λ r. HasWorked 500000001000 seat r.0) }
+    ensures worked { IfOk result (λ r. HasWorked observer_turns seat r.0) }
     ensures seen { IfOk result (λ r. HasSeen lock.now.opening.setup.0 looks r.0.seen r.1.sights) }
     ensures room { IfOk result (λ r. 0 < r.1.spare) }
 {
@@ -298,7 +298,7 @@ fn commit_all(alloc: Global, book: &mut Book, by: u32) -> Result<(), OutOfMemory
     for _ in book.committed()..book.quanta() {
         advance_one(alloc, book, by)?;
     }
-    let _committed = book.committed();
+    let _committed = book.committed(); // for its contract alone
     Ok(())
 }
 
@@ -341,7 +341,7 @@ fn see_end<R: Wait>(
     let seat = lock.join_seats(watched.observer, lead);
     let (seat, sight) = look(rt, alloc, &lock, seat);
     let book = lock.close(seat);
-    let _committed = book.committed();
+    let _committed = book.committed(); // for its contract alone
     let mut sights = watched.sights;
     sights.add(sight?);
     Ok((sights, book))

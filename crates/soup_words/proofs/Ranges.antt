@@ -24,18 +24,82 @@ record IsWithin (row : Row) : Type 0 where
 
 row-within : (action : Action) → IsWithin (row_of action)
 unfolding row_of
-row-within Grow = record { quanta = (omega arith, omega arith); workers = (omega arith, omega arith); number = tt; every = tt; looks = tt; isles = tt; epochs = tt }
-row-within Run = record { quanta = (omega arith, omega arith); workers = (omega arith, omega arith); number = tt; every = tt; looks = tt; isles = tt; epochs = tt }
+row-within Grow = record {
+  quanta = (omega arith, omega arith);
+  workers = (omega arith, omega arith);
+  number = tt;
+  every = tt;
+  looks = tt;
+  isles = tt;
+  epochs = tt;
+}
+row-within Run = record {
+  quanta = (omega arith, omega arith);
+  workers = (omega arith, omega arith);
+  number = tt;
+  every = tt;
+  looks = tt;
+  isles = tt;
+  epochs = tt;
+}
 row-within Asm = record { quanta = tt; workers = tt; number = tt; every = tt; looks = tt; isles = tt; epochs = tt }
 row-within Dis = record { quanta = tt; workers = tt; number = tt; every = tt; looks = tt; isles = tt; epochs = tt }
 row-within Bank = record { quanta = tt; workers = tt; number = tt; every = tt; looks = tt; isles = tt; epochs = tt }
-row-within Drill = record { quanta = (omega arith, omega arith); workers = tt; number = (omega arith, omega arith); every = tt; looks = tt; isles = tt; epochs = tt }
+row-within Drill = record {
+  quanta = (omega arith, omega arith);
+  workers = tt;
+  number = (omega arith, omega arith);
+  every = tt;
+  looks = tt;
+  isles = tt;
+  epochs = tt;
+}
 row-within Dump = record { quanta = (omega arith, omega arith); workers = tt; number = tt; every = tt; looks = tt; isles = tt; epochs = tt }
-row-within Hold = record { quanta = (omega arith, omega arith); workers = tt; number = tt; every = (omega arith, omega arith); looks = tt; isles = tt; epochs = tt }
-row-within Curve = record { quanta = (omega arith, omega arith); workers = tt; number = tt; every = (omega arith, omega arith); looks = tt; isles = tt; epochs = tt }
-row-within Probe = record { quanta = (omega arith, omega arith); workers = (omega arith, omega arith); number = tt; every = tt; looks = tt; isles = tt; epochs = tt }
-row-within Watch = record { quanta = (omega arith, omega arith); workers = (omega arith, omega arith); number = tt; every = tt; looks = (omega arith, omega arith); isles = tt; epochs = tt }
-row-within Isles = record { quanta = (omega arith, omega arith); workers = (omega arith, omega arith); number = tt; every = tt; looks = tt; isles = (omega arith, omega arith); epochs = (omega arith, omega arith) }
+row-within Hold = record {
+  quanta = (omega arith, omega arith);
+  workers = tt;
+  number = tt;
+  every = (omega arith, omega arith);
+  looks = tt;
+  isles = tt;
+  epochs = tt;
+}
+row-within Curve = record {
+  quanta = (omega arith, omega arith);
+  workers = tt;
+  number = tt;
+  every = (omega arith, omega arith);
+  looks = tt;
+  isles = tt;
+  epochs = tt;
+}
+row-within Probe = record {
+  quanta = (omega arith, omega arith);
+  workers = (omega arith, omega arith);
+  number = tt;
+  every = tt;
+  looks = tt;
+  isles = tt;
+  epochs = tt;
+}
+row-within Watch = record {
+  quanta = (omega arith, omega arith);
+  workers = (omega arith, omega arith);
+  number = tt;
+  every = tt;
+  looks = (omega arith, omega arith);
+  isles = tt;
+  epochs = tt;
+}
+row-within Isles = record {
+  quanta = (omega arith, omega arith);
+  workers = (omega arith, omega arith);
+  number = tt;
+  every = tt;
+  looks = tt;
+  isles = (omega arith, omega arith);
+  epochs = (omega arith, omega arith);
+}
 
 watchers-within : (action : Action) → action ≡ Watch → Within 1 (MOST_WORKERS - 1) (Row.workers (row_of action))
 unfolding row_of
@@ -60,9 +124,11 @@ order-in_range words order is =
     record {
       quanta = value-within 1 MOST_QUANTA (Row.quanta row) (given words (codes "quanta")) 1000 order.quanta within.quanta (omega arith) (omega arith) is.quanta;
       workers = workers-within order.action (given words (codes "workers")) order.workers is.workers;
-      watchers = λ watch. (value-within 1 (MOST_WORKERS - 1) (Row.workers row) (given words (codes "workers")) 1 order.workers (watchers-within order.action watch)
+      watchers = λ watch.
+          (value-within 1 (MOST_WORKERS - 1) (Row.workers row) (given words (codes "workers")) 1 order.workers (watchers-within order.action watch)
           (omega arith) (omega arith) is.workers).1;
-      number = (value-within 0 18446744073709551615 (Row.number row) (given words (codes "number")) 0 order.number within.number (omega arith) (omega arith) is.number).1;
+      number = (value-within 0 18446744073709551615 (Row.number row) (given words (codes "number")) 0 order.number within.number (omega arith) (omega arith)
+          is.number).1;
       every = value-within 1 MOST_QUANTA (Row.every row) (given words (codes "every")) 1000 order.every within.every (omega arith) (omega arith) is.every;
       looks = value-within 1 MOST_LOOKS (Row.looks row) (given words (codes "looks")) 10 order.looks within.looks (omega arith) (omega arith) is.looks;
       isles = value-within 1 MOST_ISLES (Row.isles row) (given words (codes "isles")) 2 order.isles within.isles (omega arith) (omega arith) is.isles;

@@ -6,7 +6,8 @@ use Rattle.soup_words.specs.declared.order.Action.TheVariants.{Hold, Watch}
 use Rattle.soup_words.specs.declared.order.Order.{Order}
 use Rattle.soup_words.specs.Split.{given, tierra_app}
 use Rattle.soup_words.specs.Table.{Range, Row, action_named, row_of}
-use Rattle.tierra_model.specs.declared.limits.TheConstants.{MOST_EPOCHS, MOST_ISLES, MOST_LOOKS, MOST_QUANTA, MOST_WORKERS}
+use Rattle.tierra_model.specs.declared.limits.TheConstants.{MOST_EPOCHS, MOST_ISLES, MOST_LOOKS, MOST_QUANTA}
+use Rattle.tierra_model.specs.declared.limits.TheConstants.{MOST_WORKERS}
 
 -- n is the number that an option's text spells, in its range, or the default if there is no text
 abbrev pub IsValue : Range → Option (List ℕ) → ℕ → ℕ → Type 0

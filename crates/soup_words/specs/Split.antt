@@ -9,7 +9,8 @@ option_rule name = record (new_rule name) { long = Some name }
 
 -- the words do not begin with the program's name, and there is no help flag
 abbrev pub start_app : App
-start_app = on_top (λ (s : Shape). record s { no_binary_name = true; disable_help_flag = true }) (new_app (codes "tierra"))
+start_app = on_top (λ (s : Shape). record s { no_binary_name = true; disable_help_flag = true })
+    (new_app (codes "tierra"))
 
 abbrev pub with_option : App → Text → App
 with_option app name = with_rule app (option_rule name)
@@ -17,11 +18,14 @@ with_option app name = with_rule app (option_rule name)
 -- one positional argument, and the options that a run or a drill may have
 abbrev pub basic_app : App
 basic_app =
-    with_option (with_option (with_option (with_rule start_app (new_rule (codes "action"))) (codes "quanta")) (codes "workers")) (codes "number")
+    with_option (with_option (with_option (with_rule start_app (new_rule (codes "action"))) (codes "quanta"))
+    (codes "workers")) (codes "number")
 
 -- and all other options
 abbrev pub tierra_app : App
-tierra_app = with_option (with_option (with_option (with_option basic_app (codes "every")) (codes "looks")) (codes "isles")) (codes "epochs")
+tierra_app =
+    with_option (with_option (with_option (with_option basic_app (codes "every")) (codes "looks")) (codes "isles"))
+    (codes "epochs")
 
 -- the text that the words give for a name
 unfoldable pub given : List Text → Text → Option Text

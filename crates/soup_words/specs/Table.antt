@@ -1,8 +1,10 @@
 -- The table of the actions.
 use Rattle.std.specs.Prelude.{ℕ, ◌-◌, List, [], ◌∷◌, Option, Some, None, bytes_eq, codes, find}
 use Rattle.soup_words.specs.declared.order.Action.{Action}
-use Rattle.soup_words.specs.declared.order.Action.TheVariants.{Grow, Run, Asm, Dis, Bank, Drill, Dump, Hold, Curve, Probe, Watch, Isles}
-use Rattle.tierra_model.specs.declared.limits.TheConstants.{MOST_EPOCHS, MOST_ISLES, MOST_LOOKS, MOST_QUANTA, MOST_WORKERS}
+use Rattle.soup_words.specs.declared.order.Action.TheVariants.{Grow, Run, Asm, Dis, Bank, Drill, Dump, Hold, Curve}
+use Rattle.soup_words.specs.declared.order.Action.TheVariants.{Probe, Watch, Isles}
+use Rattle.tierra_model.specs.declared.limits.TheConstants.{MOST_EPOCHS, MOST_ISLES, MOST_LOOKS, MOST_QUANTA}
+use Rattle.tierra_model.specs.declared.limits.TheConstants.{MOST_WORKERS}
 
 -- the least and the greatest number of an option, if the action has it
 abbrev pub Range : Type 0
@@ -24,7 +26,16 @@ pub record Row : Type 0 where
 
 -- an action with no option
 abbrev pub plain_row : List ℕ → Row
-plain_row name = record { name = name; quanta = None; workers = None; number = None; every = None; looks = None; isles = None; epochs = None }
+plain_row name = record {
+  name = name;
+  quanta = None;
+  workers = None;
+  number = None;
+  every = None;
+  looks = None;
+  isles = None;
+  epochs = None;
+}
 
 -- an action that takes quanta
 abbrev pub timed_row : List ℕ → Row
@@ -42,7 +53,11 @@ row_of Hold = record (timed_row (codes "hold")) { every = to MOST_QUANTA }
 row_of Curve = record (timed_row (codes "curve")) { every = to MOST_QUANTA }
 row_of Probe = record (timed_row (codes "probe")) { workers = to MOST_WORKERS }
 row_of Watch = record (timed_row (codes "watch")) { workers = to (MOST_WORKERS - 1); looks = to MOST_LOOKS }
-row_of Isles = record (timed_row (codes "isles")) { workers = to MOST_WORKERS; isles = to MOST_ISLES; epochs = to MOST_EPOCHS }
+row_of Isles = record (timed_row (codes "isles")) {
+  workers = to MOST_WORKERS;
+  isles = to MOST_ISLES;
+  epochs = to MOST_EPOCHS;
+}
 
 abbrev pub actions : List Action
 actions = Grow ∷ Run ∷ Asm ∷ Dis ∷ Bank ∷ Drill ∷ Dump ∷ Hold ∷ Curve ∷ Probe ∷ Watch ∷ Isles ∷ []

@@ -1,5 +1,6 @@
 -- Comparing a template with cells, one after another.
-use Rattle.std.proofs.Common.{◌≡◌, ℕ, suc, ◌+◌, ◌%◌, ◌<◌, ◌≤◌, Bool, true, false, List, [], ◌∷◌, refl, sym, ◌∙◌, ap, arith, drop, drop-cons, get_or, length, add-one}
+use Rattle.std.proofs.Common.{◌≡◌, ℕ, suc, ◌+◌, ◌%◌, ◌<◌, ◌≤◌, Bool, true, false, List, [], ◌∷◌, refl, sym, ◌∙◌, ap, arith, drop, drop-cons, get_or, length}
+use Rattle.std.proofs.Common.{add-one}
 use Rattle.std.specs.Prelude.{if◌then◌else◌, ◌==◌}
 use Rattle.std.proofs.Math.Nat.{mod-eq_of_lt, mod-mod}
 use Rattle.std.proofs.lemmas.Bool.Decides.{nat_tests}
@@ -24,7 +25,8 @@ module _ {S : Type 0} (cells : S → ℕ → ℕ) (looked : S → ℕ → S) (n 
       let there : place % n ≡ place = mod-eq_of_lt h in
       ap (λ (q : ℕ). pass cells looked (if v + cells s q == 1 then compare n vs (place + 1) else Answer false) (looked s q)) there
       ∙ ap (λ (m : Bool). pass cells looked (if m then compare n vs (place + 1) else Answer false) (looked s place)) e
-      ∙ ap (λ t. pass cells looked (if b then t else Answer false) (looked s place)) (compare-place n vs (place + 1) ((place + 1) % n) (sym (mod-mod (place + 1) n)))
+      ∙ ap (λ t. pass cells looked (if b then t else Answer false) (looked s place))
+      (compare-place n vs (place + 1) ((place + 1) % n) (sym (mod-mod (place + 1) n)))
 
   module _ (vs : List ℕ) (start : ℕ) (s0 : S) where
     -- what is left to compare at place i of the template gives what the whole gives

@@ -34,7 +34,8 @@ module _ {S : Type 0} (cells : S → ℕ → ℕ) (looked : S → ℕ → S) (n 
   step_of k a b s h r =
       let e : limit - k ≡ suc (limit - (k + 1)) = omega arith in
       ap (λ (j : ℕ). pass cells looked (try_each n vs (candidates n ip (length vs) way j (k + 1))) s) e
-      ∙ ap (λ (l : List ℕ). pass cells looked (try_each n vs (l ++ candidates n ip (length vs) way (limit - (k + 1)) (k + 1 + 1))) s) (sym (sides-at_distance (k + 1) a b way r))
+      ∙ ap (λ (l : List ℕ). pass cells looked (try_each n vs (l ++ candidates n ip (length vs) way (limit - (k + 1)) (k + 1 + 1))) s)
+      (sym (sides-at_distance (k + 1) a b way r))
 
   pub search_goes_on : (k a b : ℕ) (s u : S) → k < limit → Reaches n ip (length vs) (k + 1) a b
       → Passes cells looked (try_each n vs (on_sides way a b)) s u None → SearchesOn k s → SearchesOn (k + 1) u

@@ -1,5 +1,6 @@
 -- The number that has a template's first eight cells as its bytes.
-use Rattle.std.proofs.Common.{◌≡◌, ℕ, zero, suc, ◌+◌, ◌*◌, ◌^◌, ◌<◌, ◌≤◌, Bool, true, false, List, refl, sym, ◌∙◌, ap, arith, length, get_or-set_other, get_or-set_same, pow-add, pow_pos}
+use Rattle.std.proofs.Common.{◌≡◌, ℕ, zero, suc, ◌+◌, ◌*◌, ◌^◌, ◌<◌, ◌≤◌, Bool, true, false, List, refl, sym, ◌∙◌, ap, arith, length, get_or-set_other}
+use Rattle.std.proofs.Common.{get_or-set_same, pow-add, pow_pos}
 use Rattle.std.specs.Prelude.{nat_eq, nat_lt, slice_index, slice_set}
 use Rattle.std.proofs.Math.Nat.{mul_assoc}
 use Rattle.std.proofs.lemmas.Bool.Decides.{nat_tests}

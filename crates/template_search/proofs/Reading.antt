@@ -1,5 +1,6 @@
 -- Reading a template, cell by cell.
-use Rattle.std.proofs.Common.{◌≡◌, ℕ, zero, suc, ◌+◌, ◌-◌, ◌%◌, ◌<◌, ◌≤◌, Bool, true, false, List, [], ◌∷◌, ◌++◌, refl, sym, ◌∙◌, ap, arith, append-nil, append_assoc, add-one, length, length-set, take}
+use Rattle.std.proofs.Common.{◌≡◌, ℕ, zero, suc, ◌+◌, ◌-◌, ◌%◌, ◌<◌, ◌≤◌, Bool, true, false, List, [], ◌∷◌, ◌++◌, refl, sym, ◌∙◌, ap, arith, append-nil}
+use Rattle.std.proofs.Common.{append_assoc, add-one, length, length-set, take}
 use Rattle.std.specs.Prelude.{nat_lt, slice_set, if◌then◌else◌}
 use Rattle.std.proofs.Math.Nat.{mod-eq_of_lt, mod-mod}
 use Rattle.std.proofs.Math.Seq.{take-suc-set}
@@ -30,9 +31,12 @@ module _ {S : Type 0} (cells : S → ℕ → ℕ) (looked : S → ℕ → S) (n 
       let there : place % n ≡ place = mod-eq_of_lt h in
       let yes : nat_lt (cells s place) 2 ≡ true = grind (arith, nat_tests) in
       let more : Look (List ℕ) = read_template n k ((place + 1) % n) in
-      ap (λ (q : ℕ). pass cells looked (if nat_lt (cells s q) 2 then read_template n k (place + 1) >>= (λ vs. Answer (cells s q ∷ vs)) else Answer []) (looked s q)) there
-      ∙ ap (λ (b : Bool). pass cells looked (if b then read_template n k (place + 1) >>= (λ vs. Answer (cells s place ∷ vs)) else Answer []) (looked s place)) yes
-      ∙ ap (λ (t : Look (List ℕ)). pass cells looked (t >>= (λ vs. Answer (cells s place ∷ vs))) (looked s place)) (read_template-place n k (place + 1) ((place + 1) % n) (sym (mod-mod (place + 1) n)))
+      ap (λ (q : ℕ). pass cells looked (if nat_lt (cells s q) 2 then read_template n k (place + 1) >>= (λ vs. Answer (cells s q ∷ vs))
+      else Answer []) (looked s q)) there
+      ∙ ap (λ (b : Bool). pass cells looked (if b then read_template n k (place + 1) >>= (λ vs. Answer (cells s place ∷ vs)) else Answer []) (looked s place))
+      yes
+      ∙ ap (λ (t : Look (List ℕ)). pass cells looked (t >>= (λ vs. Answer (cells s place ∷ vs))) (looked s place))
+      (read_template-place n k (place + 1) ((place + 1) % n) (sym (mod-mod (place + 1) n)))
       ∙ pass-bind cells looked more (λ vs. Answer (cells s place ∷ vs)) (looked s place)
 
   read_none : (k place : ℕ) (s : S) → place < n → 2 ≤ cells s place → pass cells looked (read_template n (suc k) place) s ≡ (looked s place, [])
@@ -40,8 +44,10 @@ module _ {S : Type 0} (cells : S → ℕ → ℕ) (looked : S → ℕ → S) (n 
   read_none k place s h c =
       let there : place % n ≡ place = mod-eq_of_lt h in
       let no : nat_lt (cells s place) 2 ≡ false = grind (arith, nat_tests) in
-      ap (λ (q : ℕ). pass cells looked (if nat_lt (cells s q) 2 then read_template n k (place + 1) >>= (λ vs. Answer (cells s q ∷ vs)) else Answer []) (looked s q)) there
-      ∙ ap (λ (b : Bool). pass cells looked (if b then read_template n k (place + 1) >>= (λ vs. Answer (cells s place ∷ vs)) else Answer []) (looked s place)) no
+      ap (λ (q : ℕ). pass cells looked (if nat_lt (cells s q) 2 then read_template n k (place + 1) >>= (λ vs. Answer (cells s q ∷ vs))
+      else Answer []) (looked s q)) there
+      ∙ ap (λ (b : Bool). pass cells looked (if b then read_template n k (place + 1) >>= (λ vs. Answer (cells s place ∷ vs)) else Answer []) (looked s place))
+      no
 
   module _ (start : ℕ) (s0 : S) where
     abbrev whole : S × List ℕ

@@ -18,7 +18,8 @@ module _ {S : Type 0} (cells : S → ℕ → ℕ) (looked : S → ℕ → S) (n 
   cells_differ zero vs place short within known other = elim (other (λ j h. omega arith)) [ ]
   cells_differ (suc m) [] place short within known other = (let none : ⊥ = omega arith in elim none [ ])
   cells_differ (suc m) (w ∷ ws) place short within known other =
-      go (cells_differ m ws (place + 1) (omega arith) (omega arith) (λ j h. subst (λ (q : ℕ). slice_index row q < 32) (further j) (known (suc j) (omega arith))))
+      go (cells_differ m ws (place + 1) (omega arith) (omega arith)
+      (λ j h. subst (λ (q : ℕ). slice_index row q < 32) (further j) (known (suc j) (omega arith))))
       (w + cells v place == 1) refl
     where
       first : place + 0 ≡ place
@@ -51,7 +52,8 @@ module _ {S : Type 0} (cells : S → ℕ → ℕ) (looked : S → ℕ → S) (n 
 
   module _ (vs : List ℕ) where
     pub candidate_differs : (place : ℕ) → place + 8 ≤ n → Differs vs row place → Passes cells looked (try_each n vs (place ∷ [])) v v None
-    candidate_differs place near d = one_fails cells looked n vs place v v (cells_differ (min 8 (length vs)) vs place (omega arith) (omega arith) d.known d.other)
+    candidate_differs place near d =
+        one_fails cells looked n vs place v v (cells_differ (min 8 (length vs)) vs place (omega arith) (omega arith) d.known d.other)
 
     pub candidates_differ : (a b : ℕ) → a + 8 ≤ n → b + 8 ≤ n → Differs vs row a → Differs vs row b → Passes cells looked (try_each n vs (a ∷ b ∷ [])) v v None
     candidates_differ a b near_a near_b d e = second_of_two cells looked n vs a b v v v None (candidate_differs a near_a d) (candidate_differs b near_b e)

@@ -23,7 +23,8 @@ module _ {S : Type 0} (cells : S → ℕ → ℕ) (looked : S → ℕ → S) (n 
   second e = ap (λ p. p.1) e
 
   -- one of the first candidates matches, and so the others are not tried
-  pub first_found : (xs ys : List ℕ) (s u : S) (p : ℕ) → Passes cells looked (try_each n vs xs) s u (Some p) → Passes cells looked (try_each n vs (xs ++ ys)) s u (Some p)
+  pub first_found : (xs ys : List ℕ) (s u : S) (p : ℕ) → Passes cells looked (try_each n vs xs) s u (Some p)
+      → Passes cells looked (try_each n vs (xs ++ ys)) s u (Some p)
   unfolding try_each
   first_found [] ys s u p e = (let k : None ≡ Some p = second e in cc)
   first_found (x ∷ xs) ys s u p e = go (pass cells looked (compare n vs x) s).1 (pass cells looked (compare n vs x) s).0 refl e (first_found xs ys)
@@ -35,19 +36,22 @@ module _ {S : Type 0} (cells : S → ℕ → ℕ) (looked : S → ℕ → S) (n 
       go false w c e ih = try_next x (xs ++ ys) s w false c ∙ ih w u p (sym (try_next x xs s w false c) ∙ e)
 
   -- none of the first candidates matches, and so the others are tried
-  pub none_found : (xs ys : List ℕ) (s u : S) → Passes cells looked (try_each n vs xs) s u None → pass cells looked (try_each n vs (xs ++ ys)) s ≡ pass cells looked (try_each n vs ys) u
+  pub none_found : (xs ys : List ℕ) (s u : S) → Passes cells looked (try_each n vs xs) s u None
+      → pass cells looked (try_each n vs (xs ++ ys)) s ≡ pass cells looked (try_each n vs ys) u
   unfolding try_each
   none_found [] ys s u e = ap (λ (x : S × Option ℕ). pass cells looked (try_each n vs ys) x.0) e
   none_found (x ∷ xs) ys s u e = go (pass cells looked (compare n vs x) s).1 (pass cells looked (compare n vs x) s).0 refl e (none_found xs ys)
     where
       go : (b : Bool) (w : S) → pass cells looked (compare n vs x) s ≡ (w, b) → Passes cells looked (try_each n vs (x ∷ xs)) s u None
-          → ((s u : S) → Passes cells looked (try_each n vs xs) s u None → pass cells looked (try_each n vs (xs ++ ys)) s ≡ pass cells looked (try_each n vs ys) u)
+          → ((s u : S) → Passes cells looked (try_each n vs xs) s u None
+          → pass cells looked (try_each n vs (xs ++ ys)) s ≡ pass cells looked (try_each n vs ys) u)
           → pass cells looked (try_each n vs (x ∷ xs ++ ys)) s ≡ pass cells looked (try_each n vs ys) u
       go true w c e ih = (let k : Some x ≡ None = second (sym (try_next x xs s w true c) ∙ e) in cc)
       go false w c e ih = try_next x (xs ++ ys) s w false c ∙ ih w u (sym (try_next x xs s w false c) ∙ e)
 
   -- two candidates
-  pub first_of_two : (p q r : ℕ) (s u : S) → Passes cells looked (try_each n vs (p ∷ [])) s u (Some r) → Passes cells looked (try_each n vs (p ∷ q ∷ [])) s u (Some r)
+  pub first_of_two : (p q r : ℕ) (s u : S) → Passes cells looked (try_each n vs (p ∷ [])) s u (Some r)
+      → Passes cells looked (try_each n vs (p ∷ q ∷ [])) s u (Some r)
   first_of_two p q r s u e = first_found (p ∷ []) (q ∷ []) s u r e
 
   pub second_of_two : (p q : ℕ) (s w u : S) (o : Option ℕ) → Passes cells looked (try_each n vs (p ∷ [])) s w None

@@ -122,11 +122,13 @@ module _ (vs cells : List ℕ) (len : ℕ) (is : vs ≡ take len cells) (enough 
       go : (b : Bool) → nat_lt j (length vs) ≡ b → bit_and (bit_xor (cell j) 1) (mask_at vs j) ≡ complement_at vs j
       go true e =
           let here : j < length vs = grind (arith, nat_tests) in
-          let same : get_or vs j 0 ≡ cell j = ap (λ (l : List ℕ). get_or l j 0) is ∙ get_or-take len cells j 0 (omega (arith, here, long)) ∙ ap (slice_index cells) (first j) in
+          let same : get_or vs j 0 ≡ cell j =
+          ap (λ (l : List ℕ). get_or l j 0) is ∙ get_or-take len cells j 0 (omega (arith, here, long)) ∙ ap (slice_index cells) (first j) in
           under_mask vs j (bit_xor (cell j) 1) here below ∙ rw e (ap (λ (n : ℕ). bit_xor n 1) (sym same))
       go false e = past_mask vs j (bit_xor (cell j) 1) (grind (arith, nat_tests))
 
-  pub is_opening : (o : Opening) (nops mask : ℕ) → nops ≡ packed cell → mask ≡ packed (mask_at vs) → o.cells ≡ bit_and (bit_xor nops other_nops) mask → o.mask ≡ mask
+  pub is_opening : (o : Opening) (nops mask : ℕ) → nops ≡ packed cell → mask ≡ packed (mask_at vs) → o.cells ≡ bit_and (bit_xor nops other_nops) mask
+      → o.mask ≡ mask
       → IsOpening vs o
   is_opening o nops mask seen masks have under =
       let others : bit_xor (number 8 cell) (number 8 (λ j. 1)) ≡ number 8 (λ j. bit_xor (cell j) 1) =
@@ -174,8 +176,10 @@ module _ (vs row : List ℕ) (place : ℕ) (o : Opening) (opening : IsOpening vs
 
   known_in_word : bit_and seen no_codes ≡ 0 → (j : ℕ) → j < min 8 (length vs) → byte j < 32
   known_in_word none j h =
-      let each : bit_and (number 8 (λ j. bit_and (byte j) (mask_at vs j))) (number 8 (λ j. no_code)) ≡ number 8 (λ j. bit_and (bit_and (byte j) (mask_at vs j)) no_code) =
-      number_and 8 (λ j. bit_and (byte j) (mask_at vs j)) (λ j. no_code) (λ j h. omega (arith, and_le_l (byte j) (mask_at vs j), bytes j)) (λ j h. omega arith) in
+      let each : bit_and (number 8 (λ j. bit_and (byte j) (mask_at vs j)))
+      (number 8 (λ j. no_code)) ≡ number 8 (λ j. bit_and (bit_and (byte j) (mask_at vs j)) no_code) =
+      number_and 8 (λ j. bit_and (byte j) (mask_at vs j)) (λ j. no_code) (λ j h. omega (arith, and_le_l (byte j) (mask_at vs j), bytes j))
+      (λ j h. omega arith) in
       let nothing : number 8 (λ j. bit_and (bit_and (byte j) (mask_at vs j)) no_code) ≡ 0 = sym each ∙ ap (λ (n : ℕ). bit_and n no_codes) (sym masked) ∙ none in
       is_code (byte j) (bytes j)
       (ap (λ (n : ℕ). bit_and n no_code) (sym (under_mask vs j (byte j) (omega arith) (bytes j)))

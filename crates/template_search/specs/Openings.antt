@@ -1,5 +1,6 @@
 -- The first cells of a template's complement, compared with a row of cells.
-use Rattle.std.specs.Prelude.{List, [], bit_xor, get_or, if◌then◌else◌, length, min, nat_lt, slice_index, ℕ, ◌+◌, ◌<◌, ◌≡◌, ◌∷◌}
+use Rattle.std.specs.Prelude.{List, [], bit_xor, get_or, if◌then◌else◌, length, min, nat_lt, slice_index, ℕ, ◌+◌, ◌<◌}
+use Rattle.std.specs.Prelude.{◌≡◌, ◌∷◌}
 use Rattle.std.specs.Int.{from_le_bytes, w64}
 use Rattle.template_search.specs.declared.opening.Opening.{Opening}
 

@@ -1,5 +1,6 @@
 -- A text that is cut after what stands at its front.
-use Rattle.std.proofs.Common.{◌≡◌, ℕ, ◌+◌, ◌<◌, ◌^◌, Bool, true, false, List, [], ◌∷◌, Some, length, min, not, take, drop, slice_get, IsUtf8, sym, ap, ◌∙◌, arith, take-append-drop, length-take}
+use Rattle.std.proofs.Common.{◌≡◌, ℕ, ◌+◌, ◌<◌, ◌^◌, Bool, true, false, List, [], ◌∷◌, Some, length, min, not, take, drop, slice_get, IsUtf8, sym, ap, ◌∙◌}
+use Rattle.std.proofs.Common.{arith, take-append-drop, length-take}
 use Rattle.std.specs.List.{position_or_len}
 use Rattle.std.specs.Str.{IsCharBoundary}
 use Rattle.std.proofs.lemmas.Bool.Decides.{nat_tests}
@@ -25,7 +26,8 @@ drop_separator n b (x ∷ text) first separates =
 comment_no_feed : (b : ℕ) → begins_comment b ≡ true → is_line_feed b ≡ false
 comment_no_feed b begins = grind (arith, nat_tests)
 
-pub drop_comment : (n b : ℕ) (text : List ℕ) → slice_get text 0 ≡ Some b → begins_comment b ≡ true → words_from n (drop (position_or_len is_line_feed text) text) ≡ words_from n text
+pub drop_comment : (n b : ℕ) (text : List ℕ) → slice_get text 0 ≡ Some b → begins_comment b ≡ true
+    → words_from n (drop (position_or_len is_line_feed text) text) ≡ words_from n text
 drop_comment n b [] first begins = absurd cc
 drop_comment n b (x ∷ text) first begins =
     let is : x ≡ b = cc in
@@ -33,7 +35,8 @@ drop_comment n b (x ∷ text) first begins =
     let inner = comment_no_feed x begins_here in
     let end = position_or_len is_line_feed text in
     ap (words_from n) (drop_first-no is_line_feed x text inner)
-    ∙ sym (words_from-comment n x (take end text) (drop end text) begins_here (All-cons (Fails is_line_feed) x (take end text) inner (All-before_first is_line_feed text)) (at_first is_line_feed text))
+    ∙ sym (words_from-comment n x (take end text) (drop end text) begins_here
+    (All-cons (Fails is_line_feed) x (take end text) inner (All-before_first is_line_feed text)) (at_first is_line_feed text))
     ∙ ap (λ t. words_from n (x ∷ t)) (take-append-drop end text)
 
 -- a word at the front, which is not empty
@@ -41,7 +44,8 @@ some_word : (text : List ℕ) → IsAtWord text → 0 < length text → 0 < leng
 some_word [] at_word some = some
 some_word (x ∷ text) at_word some = omega (arith, ap length (before_first-no ends_word x text at_word))
 
-pub drop_word : (n : ℕ) (text : List ℕ) → n < 2 ^ 32 → IsAtWord text → 0 < length text → words_from n text ≡ record { line = n; bytes = take (position_or_len ends_word text) text } ∷ words_from n (drop (position_or_len ends_word text) text)
+pub drop_word : (n : ℕ) (text : List ℕ) → n < 2 ^ 32 → IsAtWord text → 0 < length text
+    → words_from n text ≡ record { line = n; bytes = take (position_or_len ends_word text) text } ∷ words_from n (drop (position_or_len ends_word text) text)
 drop_word n text fits at_word some =
     let end = position_or_len ends_word text in
     let line : min n 4294967295 ≡ n = omega arith in
@@ -50,7 +54,8 @@ drop_word n text fits at_word some =
     ∙ ap (λ m. record { line = m; bytes = take end text } ∷ words_from n (drop end text)) line
 
 -- the same, where the word and what follows it have names
-pub first_word : (n end : ℕ) (rest word after : List ℕ) → n < 2 ^ 32 → IsAtWord rest → end ≡ position_or_len ends_word rest → word ≡ take end rest → after ≡ drop end rest → 0 < length word → words_from n rest ≡ record { line = n; bytes = word } ∷ words_from n after
+pub first_word : (n end : ℕ) (rest word after : List ℕ) → n < 2 ^ 32 → IsAtWord rest → end ≡ position_or_len ends_word rest → word ≡ take end rest
+    → after ≡ drop end rest → 0 < length word → words_from n rest ≡ record { line = n; bytes = word } ∷ words_from n after
 first_word n end rest word after fits at_word end_is word_is after_is some =
     let whole : 0 < length rest = omega (arith, ap length word_is, length-take {A = ℕ}) in
     rw (word_is, after_is, end_is) (drop_word n rest fits at_word whole)

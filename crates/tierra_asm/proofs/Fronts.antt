@@ -17,7 +17,8 @@ pub words_from-line_feed : (n : ℕ) (text : List ℕ) → words_from n (10 ∷ 
 words_from-line_feed n text = refl
 
 -- numbers that are one when capped number the lines alike
-lines_capped : (lines : List (List ℕ)) (n m : ℕ) → min n 4294967295 ≡ min m 4294967295 → flat_map placed_words (enumerate_from n lines) ≡ flat_map placed_words (enumerate_from m lines)
+lines_capped : (lines : List (List ℕ)) (n m : ℕ) → min n 4294967295 ≡ min m 4294967295
+    → flat_map placed_words (enumerate_from n lines) ≡ flat_map placed_words (enumerate_from m lines)
 lines_capped [] n m same = refl
 lines_capped (line ∷ lines) n m same =
     let next : min (n + 1) 4294967295 ≡ min (m + 1) 4294967295 = omega arith in
@@ -27,11 +28,13 @@ pub words_from-capped : (n m : ℕ) (text : List ℕ) → min n 4294967295 ≡ m
 words_from-capped n m text same = lines_capped (slice_split is_line_feed text) n m same
 
 -- the words of the first line, and those of the others
-words_from_parts : (n : ℕ) (text line : List ℕ) (lines : List (List ℕ)) → slice_split is_line_feed text ≡ line ∷ lines → words_from n text ≡ placed_words (n, line) ++ flat_map placed_words (enumerate_from (n + 1) lines)
+words_from_parts : (n : ℕ) (text line : List ℕ) (lines : List (List ℕ)) → slice_split is_line_feed text ≡ line ∷ lines
+    → words_from n text ≡ placed_words (n, line) ++ flat_map placed_words (enumerate_from (n + 1) lines)
 words_from_parts n text line lines split = ap (λ ls. flat_map placed_words (enumerate_from n ls)) split
 
 -- a change of the first line that keeps its words
-words_from_same : (n : ℕ) (text other line changed : List ℕ) (lines : List (List ℕ)) → slice_split is_line_feed text ≡ line ∷ lines → slice_split is_line_feed other ≡ changed ∷ lines → words_of_line line ≡ words_of_line changed → words_from n text ≡ words_from n other
+words_from_same : (n : ℕ) (text other line changed : List ℕ) (lines : List (List ℕ)) → slice_split is_line_feed text ≡ line ∷ lines
+    → slice_split is_line_feed other ≡ changed ∷ lines → words_of_line line ≡ words_of_line changed → words_from n text ≡ words_from n other
 words_from_same n text other line changed lines split split_other same =
     words_from_parts n text line lines split
     ∙ ap (λ ws. map (λ word. record { line = min n 4294967295; bytes = word }) ws ++ flat_map placed_words (enumerate_from (n + 1) lines)) same
@@ -59,7 +62,8 @@ line_end [] ends = ([], refl)
 line_end (b ∷ text) ends = (slice_split is_line_feed text, slice_split-cons_yes is_line_feed b text ends)
 
 -- a comment has no words
-pub words_from-comment : (n b : ℕ) (comment text : List ℕ) → begins_comment b ≡ true → All (Fails is_line_feed) (b ∷ comment) → IsAtPass is_line_feed text → words_from n ((b ∷ comment) ++ text) ≡ words_from n text
+pub words_from-comment : (n b : ℕ) (comment text : List ℕ) → begins_comment b ≡ true → All (Fails is_line_feed) (b ∷ comment) → IsAtPass is_line_feed text
+    → words_from n ((b ∷ comment) ++ text) ≡ words_from n text
 words_from-comment n b comment text begins inside ends =
     let first = line_end text ends in
     words_from_same n ((b ∷ comment) ++ text) text (b ∷ (comment ++ [])) [] first.0
@@ -124,20 +128,25 @@ word_end (b ∷ text) ends =
     ] refl
 
 -- a word and no more stands before the first separator
-words_of_front : (word after : List ℕ) (parts : List (List ℕ)) → 0 < length word → All (Fails is_separator) word → slice_split is_separator after ≡ [] ∷ parts → filter is_some (slice_split is_separator (word ++ after)) ≡ word ∷ filter is_some (slice_split is_separator after)
+words_of_front : (word after : List ℕ) (parts : List (List ℕ)) → 0 < length word → All (Fails is_separator) word → slice_split is_separator after ≡ [] ∷ parts
+    → filter is_some (slice_split is_separator (word ++ after)) ≡ word ∷ filter is_some (slice_split is_separator after)
 words_of_front word after parts some inside blank =
     let counts : nat_lt 0 (length word) ≡ true = grind (arith, nat_tests) in
     rw (slice_split_onto is_separator word after [] parts inside blank, blank, append-nil)
     (ap (λ b. cond b (word ∷ filter is_some parts) (filter is_some parts)) counts)
 
 -- a word at the front is the first word
-pub words_from-word : (n : ℕ) (word text : List ℕ) → 0 < length word → All (Fails ends_word) word → IsAtPass ends_word text → words_from n (word ++ text) ≡ record { line = min n 4294967295; bytes = word } ∷ words_from n text
+pub words_from-word : (n : ℕ) (word text : List ℕ) → 0 < length word → All (Fails ends_word) word → IsAtPass ends_word text
+    → words_from n (word ++ text) ≡ record { line = min n 4294967295; bytes = word } ∷ words_from n text
 words_from-word n word text some inside ends =
     let front = word_end text ends in
-    let whole = slice_split_onto is_line_feed word text front.line front.lines (All-weaker (Fails ends_word) (Fails is_line_feed) no_feed word inside) front.split in
+    let whole = slice_split_onto is_line_feed word text front.line front.lines (All-weaker (Fails ends_word) (Fails is_line_feed) no_feed word inside)
+    front.split in
     let line_words : words_of_line (word ++ front.line) ≡ word ∷ words_of_line front.line =
-    ap (λ part. filter is_some (slice_split is_separator part)) (before_first_onto begins_comment word front.line (All-weaker (Fails ends_word) (Fails begins_comment) no_comment word inside))
-    ∙ words_of_front word (before_first begins_comment front.line) front.parts some (All-weaker (Fails ends_word) (Fails is_separator) no_separator word inside) front.blank in
+    ap (λ part. filter is_some (slice_split is_separator part))
+    (before_first_onto begins_comment word front.line (All-weaker (Fails ends_word) (Fails begins_comment) no_comment word inside))
+    ∙ words_of_front word (before_first begins_comment front.line) front.parts some
+    (All-weaker (Fails ends_word) (Fails is_separator) no_separator word inside) front.blank in
     words_from_parts n (word ++ text) (word ++ front.line) front.lines whole
     ∙ ap (λ ws. map (λ w. record { line = min n 4294967295; bytes = w }) ws ++ flat_map placed_words (enumerate_from (n + 1) front.lines)) line_words
     ∙ ap (λ ws. record { line = min n 4294967295; bytes = word } ∷ ws) (sym (words_from_parts n text front.line front.lines front.split))

@@ -1,5 +1,6 @@
 -- The parts of a list that is split where a test passes.
-use Rattle.std.proofs.Common.{◌≡◌, ℕ, ◌≤◌, Bool, true, false, cond, List, [], ◌∷◌, ◌++◌, length, ltb, not, Option, Some, None, unwrap_or, drop, one-add, refl, sym, subst, ap, ◌∙◌, ◌+◌, arith}
+use Rattle.std.proofs.Common.{◌≡◌, ℕ, ◌≤◌, Bool, true, false, cond, List, [], ◌∷◌, ◌++◌, length, ltb, not, Option, Some, None, unwrap_or, drop, one-add, refl}
+use Rattle.std.proofs.Common.{sym, subst, ap, ◌∙◌, ◌+◌, arith}
 use Rattle.std.specs.Prelude.{All}
 use Rattle.std.specs.List.{before_first, onto_first, position_or_len, slice_split}
 use Rattle.std.proofs.lemmas.Bool.Decides.{nat_tests}
@@ -26,7 +27,8 @@ module _ {A : Type 0} (p : A → Bool) where
   Fails x = p x ≡ false
 
   -- what passes nowhere joins the first part
-  pub slice_split_onto : (front xs part : List A) (parts : List (List A)) → All Fails front → slice_split p xs ≡ part ∷ parts → slice_split p (front ++ xs) ≡ (front ++ part) ∷ parts
+  pub slice_split_onto : (front xs part : List A) (parts : List (List A)) → All Fails front → slice_split p xs ≡ part ∷ parts
+      → slice_split p (front ++ xs) ≡ (front ++ part) ∷ parts
   slice_split_onto [] xs part parts fails split = split
   slice_split_onto (x ∷ front) xs part parts fails split =
       slice_split-cons_no p x (front ++ xs) (All-head Fails x front fails)
@@ -46,7 +48,8 @@ module _ {A : Type 0} (p : A → Bool) where
       ∙ ap (λ l. x ∷ l) (before_first_onto front xs (All-tail Fails x front fails))
 
   -- what `position` gives, or the length
-  pub unwrap_or_position : (xs : List A) (r : Option ℕ) → r ≡ cond (ltb (position_or_len p xs) (length xs)) (Some (position_or_len p xs)) None → unwrap_or r (length xs) ≡ position_or_len p xs
+  pub unwrap_or_position : (xs : List A) (r : Option ℕ) → r ≡ cond (ltb (position_or_len p xs) (length xs)) (Some (position_or_len p xs)) None
+      → unwrap_or r (length xs) ≡ position_or_len p xs
   unwrap_or_position xs r first = rw first (within_or_end (position_or_len p xs) (length xs) (prefix_len-le-length (λ x. not (p x)) xs))
 
   -- nothing, or what passes stands first
@@ -76,5 +79,6 @@ module _ {A : Type 0} (p : A → Bool) where
   All-before_first (x ∷ xs) =
       elim (p x) as (λ b. p x ≡ b → All Fails (before_first p (x ∷ xs))) [
         | true ↦ λ passes. All-same Fails (before_first p (x ∷ xs)) [] (before_first-yes x xs passes) (All-nil Fails)
-        | false ↦ λ fails. All-same Fails (before_first p (x ∷ xs)) (x ∷ before_first p xs) (before_first-no x xs fails) (All-cons Fails x (before_first p xs) fails (All-before_first xs))
+        | false ↦ λ fails. All-same Fails (before_first p (x ∷ xs)) (x ∷ before_first p xs) (before_first-no x xs fails)
+            (All-cons Fails x (before_first p xs) fails (All-before_first xs))
       ] refl

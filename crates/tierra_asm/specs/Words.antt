@@ -20,7 +20,8 @@ is_separator b = b == 32 || b == 9 || b == 13
 
 -- the words of a line: the parts between separators before the comment
 abbrev pub words_of_line : List ℕ → List (List ℕ)
-words_of_line line = filter (λ part. nat_lt 0 (length part)) (slice_split is_separator (before_first begins_comment line))
+words_of_line line = filter (λ part. nat_lt 0 (length part))
+    (slice_split is_separator (before_first begins_comment line))
 
 -- the words of a numbered line, each with the number of the line, or 4,294,967,295 if that is less
 abbrev pub placed_words : ℕ × List ℕ → List PlacedWord

@@ -1,5 +1,6 @@
 -- The listing of a code assembles to the code.
-use Rattle.std.proofs.Common.{◌≡◌, ℕ, ◌+◌, ◌<◌, ◌≤◌, List, [], ◌∷◌, ◌++◌, Ok, Err, Some, cond, false, length, map, get_or, slice_get, min, refl, ap, ◌∙◌, arith, append_assoc}
+use Rattle.std.proofs.Common.{◌≡◌, ℕ, ◌+◌, ◌<◌, ◌≤◌, List, [], ◌∷◌, ◌++◌, Ok, Err, Some, cond, false, length, map, get_or, slice_get, min, refl, ap, ◌∙◌, arith}
+use Rattle.std.proofs.Common.{append_assoc}
 use Rattle.std.specs.Prelude.{All, nat_lt}
 use Rattle.std.specs.Option.{ok_or}
 use Rattle.std.specs.List.{concat, enumerate_from}
@@ -26,7 +27,8 @@ record HasLines (place number line : ℕ) (code : List ℕ) : Type 0 where
   read : values_from named_code number (words_from line (concat lines)) ≡ Ok code
 
 -- a name within the first 20,000 is read as its code
-named_code_is : (number line code : ℕ) (bytes : List ℕ) → number < 20001 → code_of bytes ≡ Some code → named_code (number, record { line = line; bytes = bytes }) ≡ Ok code
+named_code_is : (number line code : ℕ) (bytes : List ℕ) → number < 20001 → code_of bytes ≡ Some code
+    → named_code (number, record { line = line; bytes = bytes }) ≡ Ok code
 named_code_is number line code bytes within is =
     let few : nat_lt MOST_SIZE number ≡ false = grind (arith, nat_tests) in
     ap (λ o. cond (nat_lt MOST_SIZE number) (Err (TooLong line)) (ok_or o (UnknownName line))) is
@@ -48,12 +50,14 @@ has_lines place number line (byte ∷ code) small few =
           ∙ ap (after_value (name ++ 10 ∷ [])) rest.written;
       read = ap (λ text. values_from named_code number (words_from line text)) words
           ∙ ap (values_from named_code number) (words_from-word line name (10 ∷ concat rest.lines) named.some named.word refl)
-          ∙ ap (λ r. all_or_first_error (r ∷ map named_code (enumerate_from (number + 1) (words_from (line + 1) (concat rest.lines))))) (named_code_is number (min line 4294967295) byte name (omega arith) named.stands)
+          ∙ ap (λ r. all_or_first_error (r ∷ map named_code (enumerate_from (number + 1) (words_from (line + 1) (concat rest.lines)))))
+          (named_code_is number (min line 4294967295) byte name (omega arith) named.stands)
           ∙ ap (after_value byte) rest.read;
     }
 
 -- there is a word where there is a value
-values_of_some : (words : List PlacedWord) (values : List ℕ) → 0 < length values → values_from named_code 1 words ≡ Ok values → values_of named_code Empty words ≡ Ok values
+values_of_some : (words : List PlacedWord) (values : List ℕ) → 0 < length values → values_from named_code 1 words ≡ Ok values
+    → values_of named_code Empty words ≡ Ok values
 values_of_some [] values some read = let same : [] ≡ values = cc in absurd (omega (arith, ap length same))
 values_of_some (word ∷ words) values some read = read
 

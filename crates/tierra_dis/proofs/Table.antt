@@ -1,5 +1,6 @@
 -- The table of names, each way.
-use Rattle.std.proofs.Common.{◌≡◌, ℕ, ◌<◌, Bool, true, false, ◌&&◌, not, List, Option, Some, None, eqb, length, slice_get, get_or, refl, sym, ap, ◌∙◌, arith, zero-add}
+use Rattle.std.proofs.Common.{◌≡◌, ℕ, ◌<◌, Bool, true, false, ◌&&◌, not, List, Option, Some, None, eqb, length, slice_get, get_or, refl, sym, ap, ◌∙◌, arith}
+use Rattle.std.proofs.Common.{zero-add}
 use Rattle.std.specs.Prelude.{All, nat_lt}
 use Rattle.std.specs.List.{enumerate_from, list_all}
 use Rattle.std.proofs.lemmas.Bool.{and_parts}
@@ -49,7 +50,8 @@ IsNamed-from_test code name stands =
     let counts = word.0 in
     record {
       some = grind (arith, nat_tests, counts);
-      word = All-weaker (λ b. not (ends_word b) ≡ true) (λ b. ends_word b ≡ false) inside_word name (AllPass-from_list_all (λ b. not (ends_word b)) name word.1);
+      word = All-weaker (λ b. not (ends_word b) ≡ true) (λ b. ends_word b ≡ false) inside_word name
+          (AllPass-from_list_all (λ b. not (ends_word b)) name word.1);
       stands = is_code_same code (code_of name) parts.1;
     }
 

@@ -87,7 +87,15 @@ run_agrees w start =
         ask_reaper = λ x a. (a.0, a.1, (λ _. a.2 refl));
         apply = λ e x a. a;
       };
-      second = record { none = λ l b. b; next = λ l m n f g b. b; put = λ c l b. b; look = λ p l b. b; ask_free = λ l b. b; ask_reaper = λ l b. b; apply = λ e l b. b };
+      second = record {
+        none = λ l b. b;
+        next = λ l m n f g b. b;
+        put = λ c l b. b;
+        look = λ p l b. b;
+        ask_free = λ l b. b;
+        ask_reaper = λ l b. b;
+        apply = λ e l b. b;
+      };
       cell = λ p x l f a b k. sym (CellsAgree-right w x.cells ((p, slice_index x.start.soup p) ∷ [])
           (subst (λ c. CellsAgree (cond c x.cells (x.cells ++ (p, slice_index x.start.soup p) ∷ [])) w) k a.0)).0;
       free = λ x l f a b. ap (λ (t : Scene). t.free) (sym f.began) ∙ a.1 refl;
@@ -117,7 +125,15 @@ unfolding with_noted_cell
 log_agrees w start =
     let u : World = with_soup w start.soup in
     record {
-      first = record { none = λ x a. a; next = λ x y z f g a. a; put = λ c x a. a; look = λ p x a. a; ask_free = λ x a. a; ask_reaper = λ x a. a; apply = λ e x a. a };
+      first = record {
+        none = λ x a. a;
+        next = λ x y z f g a. a;
+        put = λ c x a. a;
+        look = λ p x a. a;
+        ask_free = λ x a. a;
+        ask_reaper = λ x a. a;
+        apply = λ e x a. a;
+      };
       second = record {
         none = λ l b. b;
         next = λ l m n f g b. f (g b);
@@ -128,7 +144,8 @@ log_agrees w start =
         apply = λ e l b. b;
       };
       cell = λ p x l f a b k.
-          (let same : (is_noted l.cells p || list_any (writes p) l.events) ≡ is_known x p = λ i. is_noted (f.notes.cells i) p || list_any (writes p) (f.notes.events i) in
+          (let same : (is_noted l.cells p || list_any (writes p) l.events) ≡ is_known x p = λ i.
+          is_noted (f.notes.cells i) p || list_any (writes p) (f.notes.events i) in
           ap (λ (t : Scene). slice_index t.soup p) f.began
           ∙ (CellsAgree-right u l.cells ((p, slice_index l.start.soup p) ∷ [])
           (subst (λ c. CellsAgree (cond c l.cells (l.cells ++ (p, slice_index l.start.soup p) ∷ [])) u) (same ∙ k) b.0)).0

@@ -37,11 +37,13 @@ is_name w k s h =
     let code = at (λ (g : Genotype). IsCode g.code) w.genotypes k h s.written in
     (code.0, code.1, omega (arith, rank_most (length (genotype_at w.genotypes k).code) w.genotypes k, s.genotype_count, s.next_birth, s.quanta))
 
-parent_named : (w : World) (k : ℕ) (o : Option ℕ) → IsSound w → k < length w.genotypes → IfSome o (λ p. p < k) → IfSome (option_map (name_of w.genotypes) o) IsName
+parent_named : (w : World) (k : ℕ) (o : Option ℕ) → IsSound w → k < length w.genotypes → IfSome o (λ p. p < k)
+    → IfSome (option_map (name_of w.genotypes) o) IsName
 parent_named w k None s h b = tt
 parent_named w k (Some p) s h b = is_name w p s (omega arith)
 
-is_saved : (w : World) (x : Saving) → IsSound w → x.genotype < length w.genotypes → AreEfforts x.first_effort x.second_effort → IsSaved form.Two (saved_of w.genotypes x)
+is_saved : (w : World) (x : Saving) → IsSound w → x.genotype < length w.genotypes → AreEfforts x.first_effort x.second_effort
+    → IsSaved form.Two (saved_of w.genotypes x)
 is_saved w x s h e =
     let k : ℕ = x.genotype in
     record {

@@ -18,7 +18,13 @@ group_of_one quantum rank code =
     record {
       quantum = quantum;
       form = form.Two;
-      saved = (record { name = record { size = 80; rank = rank }; parent = None; first = Some (record { ran = 839; moved = 80 }); second = None; code = code }) ∷ [];
+      saved = (record {
+        name = record { size = 80; rank = rank };
+        parent = None;
+        first = Some (record { ran = 839; moved = 80 });
+        second = None;
+        code = code;
+      }) ∷ [];
     }
 
 pub three-groups : groups_of (serial three 102)
@@ -34,7 +40,13 @@ pub late-groups : groups_of (serial late 100)
     ≡ (record {
       quantum = 100;
       form = form.Two;
-      saved = (record { name = record { size = 80; rank = 0 }; parent = None; first = Some (record { ran = 839; moved = 80 }); second = Some (record { ran = 813; moved = 80 }); code = ancestor }) ∷ [];
+      saved = (record {
+        name = record { size = 80; rank = 0 };
+        parent = None;
+        first = Some (record { ran = 839; moved = 80 });
+        second = Some (record { ran = 813; moved = 80 });
+        code = ancestor;
+      }) ∷ [];
     }) ∷ []
 unfolding quanta
 late-groups = refl

@@ -35,6 +35,7 @@ can-left w (v ∷ vs) ys c = (c.0, can-left (apply_event w v) vs ys c.1)
 
 -- after xs and before ys
 pub between_events : (w : World) (xs ys : List Event) → IsSound w → CanAllHappen w (xs ++ ys)
-    → WithinQuantum w.settings (count_limit w.quanta + length xs) (count_limit w.quanta) (count_limit w.quanta + length xs) (0 + 20100 * length xs) (w.quanta + 1) (after_events w xs)
+    → WithinQuantum w.settings (count_limit w.quanta + length xs) (count_limit w.quanta) (count_limit w.quanta + length xs) (0 + 20100 * length xs)
+    (w.quanta + 1) (after_events w xs)
 between_events w xs ys s c =
     within-events w.settings (count_limit w.quanta) (count_limit w.quanta) (count_limit w.quanta) 0 (w.quanta + 1) xs w (within-start w s) (can-left w xs ys c)

@@ -13,7 +13,8 @@ pub ordered-filter : (k id : ℕ) (ids : List ℕ) → Ordered k ids → Ordered
 ordered-filter k id [] o = tt
 ordered-filter k id (x ∷ xs) o = go (not (x == id)) (ordered-filter (x + 1) id xs o.1)
   where
-    go : (b : Bool) → Ordered (x + 1) (filter (λ y. not (y == id)) xs) → Ordered k (cond b (x ∷ filter (λ y. not (y == id)) xs) (filter (λ y. not (y == id)) xs))
+    go : (b : Bool) → Ordered (x + 1) (filter (λ y. not (y == id)) xs)
+        → Ordered k (cond b (x ∷ filter (λ y. not (y == id)) xs) (filter (λ y. not (y == id)) xs))
     go true r = (o.0, r)
     go false r = ordered-weaker k (x + 1) (filter (λ y. not (y == id)) xs) (omega (arith, o.0)) r
 

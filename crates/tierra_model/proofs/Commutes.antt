@@ -103,8 +103,10 @@ pub put_after-put : (e : Event) (v : World) (c : Creature) → HasFront v → c.
 put_after-put e v c l n =
     ap (λ (d : Creature). put (record_after e d) (put c v)) (front-put c v l n) ∙ put-put (record_after e c) c v (record_after-id e c)
 
-pub put-put_after : (e : Event) (v : World) (c : Creature) → HasFront v → c.id ≡ first_of v.slicer → put (record_after e c) (put_after e v) ≡ put (record_after e c) v
-put-put_after e v c l n = put-put (record_after e c) (record_after e (front v)) v (record_after-id e c ∙ n ∙ sym (front-id v l) ∙ sym (record_after-id e (front v)))
+pub put-put_after : (e : Event) (v : World) (c : Creature) → HasFront v → c.id ≡ first_of v.slicer
+    → put (record_after e c) (put_after e v) ≡ put (record_after e c) v
+put-put_after e v c l n =
+    put-put (record_after e c) (record_after e (front v)) v (record_after-id e c ∙ n ∙ sym (front-id v l) ∙ sym (record_after-id e (front v)))
 
 pub commutes : (v : World) (c : Creature) (e : Event) → HasFront v → c.id ≡ first_of v.slicer → Shares (front v) c → Commutes v c e
 unfolding apply_event
@@ -122,7 +124,8 @@ commutes v c (event.Reap place) l n f = ap (with_living (with_death (slice_index
 commutes v c (event.Divide ran moved) l n f =
     let e : Event = (event.Divide ran moved) in
     let known : List Genotype = genotypes_at_birth (front v) ran moved v.genotypes in
-    let same : genotypes_at_birth c ran moved v.genotypes ≡ known = (λ i. with_effort_of (f.genotype i) (f.bred i + 1) (record { ran = ran; moved = moved }) v.genotypes) in
+    let same : genotypes_at_birth c ran moved v.genotypes ≡ known =
+    (λ i. with_effort_of (f.genotype i) (f.bred i + 1) (record { ran = ran; moved = moved }) v.genotypes) in
     ap (λ (d : Creature). put (record_after e d) (with_birth (genotypes_at_birth d ran moved v.genotypes) d.daughter d.genotype (put c v))) (front-put c v l n)
     ∙ with_birth-put (genotypes_at_birth c ran moved v.genotypes) c.daughter c.genotype (record_after e c) c v refl
     ∙ ap (λ (b : Option Block). put (record_after e c) (with_birth (genotypes_at_birth c ran moved v.genotypes) b c.genotype v)) f.daughter

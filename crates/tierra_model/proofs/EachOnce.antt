@@ -15,7 +15,8 @@ use Rattle.tierra_model.specs.Sound.{owners, owners_of}
 use Rattle.tierra_model.specs.Individuals.{with_individual, genotypes_at_birth}
 use Rattle.tierra_model.specs.Events.{apply_event, record_after, with_birth, with_death, with_creature}
 use Rattle.tierra_model.proofs.Living.{is_here, find-append, is_here-append}
-use Rattle.tierra_model.proofs.Owners.{sum_of-with, sum_of-without, sum_of-append, ids_of-with, ids_of-without, ids_of-append, times_in-append, times_in-filter_same, times_in-filter_other, times_in-without}
+use Rattle.tierra_model.proofs.Owners.{sum_of-with, sum_of-without, sum_of-append, ids_of-with, ids_of-without, ids_of-append, times_in-append}
+use Rattle.tierra_model.proofs.Owners.{times_in-filter_same, times_in-filter_other, times_in-without}
 use Rattle.tierra_model.proofs.Commutes.{HasFront, front-id, put_after, record_after-id}
 
 pub record EachOnce (w : World) : Type 0 where
@@ -38,7 +39,9 @@ pub owners-put_after : (e : Event) (w : World) (p : ℕ) → HasFront w → Each
     → owners (put_after e w).living p + owners_of (front w) p ≡ owners w.living p + owners_of (record_after e (front w)) p
 owners-put_after e w p l t = owners-put (record_after e (front w)) w p l t.once (record_after-id e (front w) ∙ front-id w l)
 
-pub front-with_birth : (known : List Genotype) (b : Option Block) (mother : ℕ) (w : World) → HasFront w → (first_of (with_birth known b mother w).slicer ≡ first_of w.slicer) × (front (with_birth known b mother w) ≡ front w) × HasFront (with_birth known b mother w)
+pub front-with_birth : (known : List Genotype) (b : Option Block) (mother : ℕ) (w : World) → HasFront w
+    → (first_of (with_birth known b mother w).slicer ≡ first_of w.slicer) × (front (with_birth known b mother w) ≡ front w)
+    × HasFront (with_birth known b mother w)
 front-with_birth known None mother w l = (refl, refl, l)
 front-with_birth known (Some b) mother w l =
     let first : slice_index (w.slicer ++ w.next_birth ∷ []) 0 ≡ slice_index w.slicer 0 = first-append w.slicer (w.next_birth ∷ []) l.line in
@@ -83,7 +86,8 @@ pub each_once-with_creature : (known : List Genotype) (b : Block) (code : List �
     × ((id : ℕ) → (with_creature known b code parent q w).next_birth ≤ id → times_in (ids_of (with_creature known b code parent q w).living) id ≡ 0)
 each_once-with_creature known b code parent q w once reaper fresh =
     let k : ℕ = (with_individual known code parent q).1 in
-    let ids : ids_of (w.living ++ newborn w.next_birth b k ∷ []) ≡ ids_of w.living ++ w.next_birth ∷ [] = ids_of-append w.living (newborn w.next_birth b k ∷ []) in
+    let ids : ids_of (w.living ++ newborn w.next_birth b k ∷ []) ≡ ids_of w.living ++ w.next_birth ∷ [] =
+    ids_of-append w.living (newborn w.next_birth b k ∷ []) in
     let count : (id : ℕ) → times_in (ids_of w.living ++ w.next_birth ∷ []) id ≡ times_in (ids_of w.living) id + one_if (w.next_birth == id)
     = λ id. times_in-append (ids_of w.living) (w.next_birth ∷ []) id ∙ omega arith in (
       (λ id. rw ids (rw (count id) (elim (eqb_tells w.next_birth id) [
@@ -113,7 +117,8 @@ owners-divide ran moved w p l t = go (front w).daughter refl
     c : Creature
     c = record_after (event.Divide ran moved) (front w)
 
-    go : (d : Option Block) → (front w).daughter ≡ d → owners (with_record c (with_birth (genotypes_at_birth (front w) ran moved w.genotypes) d (front w).genotype w).living) p ≡ owners w.living p
+    go : (d : Option Block) → (front w).daughter ≡ d → owners
+        (with_record c (with_birth (genotypes_at_birth (front w) ran moved w.genotypes) d (front w).genotype w).living) p ≡ owners w.living p
     go None e =
         let own : one_if (is_in_daughter (front w).daughter p) ≡ 0 = ap (λ (x : Option Block). one_if (is_in_daughter x p)) e in
         omega (arith, owners-put c w p l t.once (front-id w l))
@@ -122,7 +127,8 @@ owners-divide ran moved w p l t = go (front w).daughter refl
         let born = front-with_birth (genotypes_at_birth (front w) ran moved w.genotypes) (Some b) (front w).genotype w l in
         let own : one_if (is_in_daughter (front w).daughter p) ≡ one_if (is_in b p) = ap (λ (x : Option Block). one_if (is_in_daughter x p)) e in
         let put : owners (with_record c v.living) p + owners_of (front v) p ≡ owners v.living p + owners_of c p
-        = owners-put c v p born.2 (each_once-with_birth (genotypes_at_birth (front w) ran moved w.genotypes) (Some b) (front w).genotype w l t).0 (front-id w l ∙ sym born.0) in
+        = owners-put c v p born.2 (each_once-with_birth (genotypes_at_birth (front w) ran moved w.genotypes) (Some b) (front w).genotype w l t).0
+        (front-id w l ∙ sym born.0) in
         let same : owners_of (front v) p ≡ owners_of (front w) p = ap (λ (x : Creature). owners_of x p) born.1 in
         omega (arith, owners-with_birth (genotypes_at_birth (front w) ran moved w.genotypes) b (front w).genotype w p, put, same, own)
 

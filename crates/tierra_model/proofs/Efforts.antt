@@ -31,7 +31,8 @@ total-with_effort_of zero bred e (g ∷ gs) (suc j) = refl
 total-with_effort_of (suc k) bred e (g ∷ gs) zero = refl
 total-with_effort_of (suc k) bred e (g ∷ gs) (suc j) = total-with_effort_of k bred e gs j
 
-times_coded-with_effort_of : (k bred : ℕ) (e : Effort) (gs : List Genotype) (code : List ℕ) → times_coded (with_effort_of k bred e gs) code ≡ times_coded gs code
+times_coded-with_effort_of : (k bred : ℕ) (e : Effort) (gs : List Genotype) (code : List ℕ)
+    → times_coded (with_effort_of k bred e gs) code ≡ times_coded gs code
 times_coded-with_effort_of k bred e [] code = refl
 times_coded-with_effort_of zero bred e (g ∷ gs) code = refl
 times_coded-with_effort_of (suc k) bred e (g ∷ gs) code = ap (λ (n : ℕ). one_if (bytes_eq g.code code) + n) (times_coded-with_effort_of k bred e gs code)

@@ -19,7 +19,8 @@ abbrev pub soup_after : Event → List ℕ → List ℕ
 soup_after (event.Write at value) soup = slice_set soup at value
 soup_after _ soup = soup
 
-with_birth-keeps : (known : List Genotype) (b : Option Block) (mother : ℕ) (w : World) → ((with_birth known b mother w).soup ≡ w.soup) × ((with_birth known b mother w).settings ≡ w.settings)
+with_birth-keeps : (known : List Genotype) (b : Option Block) (mother : ℕ) (w : World)
+    → ((with_birth known b mother w).soup ≡ w.soup) × ((with_birth known b mother w).settings ≡ w.settings)
 with_birth-keeps known None mother w = (refl, refl)
 with_birth-keeps known (Some b) mother w = (refl, refl)
 
@@ -33,13 +34,15 @@ unfolding apply_event
 settings-event w (event.Divide ran moved) = (with_birth-keeps (genotypes_at_birth (front w) ran moved w.genotypes) (front w).daughter (front w).genotype w).1
 settings-event w _ = refl
 
-next_birth-with_birth : (known : List Genotype) (b : Option Block) (mother : ℕ) (w : World) → IsSome b → (with_birth known b mother w).next_birth ≡ w.next_birth + 1
+next_birth-with_birth : (known : List Genotype) (b : Option Block) (mother : ℕ) (w : World) → IsSome b
+    → (with_birth known b mother w).next_birth ≡ w.next_birth + 1
 next_birth-with_birth known None mother w h = cc
 next_birth-with_birth known (Some b) mother w h = refl
 
 pub next_birth-event : (w : World) (e : Event) → CanHappen w e → (apply_event w e).next_birth ≡ w.next_birth + births_of e
 unfolding apply_event
-next_birth-event w (event.Divide ran moved) c = next_birth-with_birth (genotypes_at_birth (front w) ran moved w.genotypes) (front w).daughter (front w).genotype w c.0
+next_birth-event w (event.Divide ran moved) c = next_birth-with_birth (genotypes_at_birth (front w) ran moved w.genotypes)
+    (front w).daughter (front w).genotype w c.0
 next_birth-event w _ c = omega arith
 
 set-below : (l : List ℕ) (at value p : ℕ) → ((q : ℕ) → slice_index l q < 32) → value < 32 → slice_index (slice_set l at value) p < 32
@@ -56,7 +59,8 @@ codes-event w e c h p = rw (soup-event w e) (h p)
 
 -- ---- in a scene
 
-pub with_newborn-keeps : (k : ℕ) (b : Option Block) (s : Scene) → ((with_newborn k b s).soup ≡ s.soup) × ((with_newborn k b s).settings ≡ s.settings) × ((with_newborn k b s).free ≡ s.free)
+pub with_newborn-keeps : (k : ℕ) (b : Option Block) (s : Scene)
+    → ((with_newborn k b s).soup ≡ s.soup) × ((with_newborn k b s).settings ≡ s.settings) × ((with_newborn k b s).free ≡ s.free)
 with_newborn-keeps k None s = (refl, refl, refl)
 with_newborn-keeps k (Some b) s = (refl, refl, refl)
 
@@ -78,7 +82,14 @@ front-in_scene k s _ = refl
 -- ---- the running record
 
 pub shares-event : (e : Event) (d c : Creature) → Shares d c → Shares (record_after e d) (record_after e c)
-shares-event event.Err d c f = record { id = f.id; own = f.own; daughter = f.daughter; errors = ap (λ (n : ℕ). n + 1) f.errors; genotype = f.genotype; bred = f.bred }
+shares-event event.Err d c f = record {
+  id = f.id;
+  own = f.own;
+  daughter = f.daughter;
+  errors = ap (λ (n : ℕ). n + 1) f.errors;
+  genotype = f.genotype;
+  bred = f.bred;
+}
 shares-event event.GiveUp d c f = record { id = f.id; own = f.own; daughter = refl; errors = f.errors; genotype = f.genotype; bred = f.bred }
 shares-event (event.Mal at size) d c f = record { id = f.id; own = f.own; daughter = refl; errors = f.errors; genotype = f.genotype; bred = f.bred }
 shares-event (event.Divide ran moved) d c f =

@@ -19,7 +19,8 @@ use Rattle.tierra_model.proofs.Living.{is_here, find-without, is_here-without}
 use Rattle.tierra_model.proofs.Owners.{is_owned-owners, is_here-times, ids_of-with}
 use Rattle.tierra_model.proofs.Commutes.{HasFront, front-put, front-id, has_front-put, put_after}
 use Rattle.tierra_model.proofs.Yards.{sum_of-error_move, sum_of-good_move, times_in-index}
-use Rattle.tierra_model.proofs.EachOnce.{EachOnce, each_once-put_after, each_once-with_birth, each_once-with_death, front-with_birth, owners-put_after, owners-divide}
+use Rattle.tierra_model.proofs.EachOnce.{EachOnce, each_once-put_after, each_once-with_birth, each_once-with_death, front-with_birth, owners-put_after}
+use Rattle.tierra_model.proofs.EachOnce.{owners-divide}
 
 -- the event leaves the same creature at the front, with the record after it
 pub record KeepsFront (w : World) (e : Event) : Type 0 where
@@ -65,7 +66,8 @@ front-event w (event.Divide ran moved) l c =
     record {
       has_front = has_front-put d (with_birth (genotypes_at_birth (front w) ran moved w.genotypes) (front w).daughter (front w).genotype w) b.2;
       same = b.0;
-      front = front-put d (with_birth (genotypes_at_birth (front w) ran moved w.genotypes) (front w).daughter (front w).genotype w) b.2 (front-id w l ∙ sym b.0);
+      front = front-put d (with_birth (genotypes_at_birth (front w) ran moved w.genotypes) (front w).daughter (front w).genotype w) b.2
+          (front-id w l ∙ sym b.0);
     }
 
 pub reaped-is_here : (w : World) (place : ℕ) → EachOnce w → place < length w.reaper → is_here w.living (slice_index w.reaper place) ≡ true
@@ -98,7 +100,8 @@ each_once-event w event.Err l t c =
       once = m.once;
       fresh = m.fresh;
       apart = m.apart;
-      reaper = λ id. sum_of-error_move (λ x. one_if (x == id)) (has_id (front (put_after event.Err w))) (errors_in (put_after event.Err w)) w.reaper ∙ m.reaper id;
+      reaper = λ id. sum_of-error_move (λ x. one_if (x == id)) (has_id (front (put_after event.Err w)))
+          (errors_in (put_after event.Err w)) w.reaper ∙ m.reaper id;
     }
 each_once-event w event.Good l t c =
     record {

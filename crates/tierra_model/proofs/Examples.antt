@@ -58,7 +58,10 @@ abbrev pub four : SetupFields
 four =
     record {
       settings = record hundred { dist_every = 2; dist_percent = 50; disturbing = (lit≤ tt, lit≤ tt) };
-      creatures = record { at = 0; code = 8 ∷ [] } ∷ record { at = 10; code = 9 ∷ [] } ∷ record { at = 20; code = 11 ∷ [] } ∷ record { at = 30; code = 10 ∷ [] } ∷ [];
+      creatures = record { at = 0; code = 8 ∷ [] } ∷ record { at = 10; code = 9 ∷ [] } ∷ record { at = 20; code = 11 ∷ [] } ∷ record {
+        at = 30;
+        code = 10 ∷ [];
+      } ∷ [];
     }
 
 -- the ancestor, of 80 cells
@@ -75,14 +78,20 @@ alone n range = record { settings = soup_of n range; creatures = record { at = 0
 
 -- the ancestor, saved at the third individual
 abbrev pub late : SetupFields
-late = record { settings = record (soup_of 1000 (lit≤ tt, lit≤ tt)) { save_at = 3; saving = (lit≤ tt, lit≤ tt) }; creatures = record { at = 0; code = ancestor } ∷ [] }
+late = record {
+  settings = record (soup_of 1000 (lit≤ tt, lit≤ tt)) { save_at = 3; saving = (lit≤ tt, lit≤ tt) };
+  creatures = record { at = 0; code = ancestor } ∷ [];
+}
 
 -- three ancestors in a small soup: the second ends with `inc_a`, the third with `dec_c`
 abbrev pub three : SetupFields
 three =
     record {
       settings = soup_of 3000 (lit≤ tt, lit≤ tt);
-      creatures = record { at = 0; code = ancestor } ∷ record { at = 1000; code = slice_set ancestor 79 8 } ∷ record { at = 2000; code = slice_set ancestor 79 10 } ∷ [];
+      creatures = record { at = 0; code = ancestor } ∷ record { at = 1000; code = slice_set ancestor 79 8 } ∷ record {
+        at = 2000;
+        code = slice_set ancestor 79 10;
+      } ∷ [];
     }
 
 -- ---- which are setups

@@ -82,7 +82,13 @@ pub not_back : TurnsBack → ⊥
 unfolding quanta
 not_back claim =
     let s = serial_is_sound breeds 1 (is_setup breeds (lit≤ tt) refl) (lit≤ tt) in
-    let past : 1 ≤ 0 = (claim (serial breeds 1) 1 1 s.sound (lit≤ tt) (lit≤ tt) (lit≤ tt)).sound.past 1 (record { genotype = 0; quantum = 0; first_effort = None; second_effort = None }) (lit≤ tt) in
+    let past : 1 ≤ 0 =
+    (claim (serial breeds 1) 1 1 s.sound (lit≤ tt) (lit≤ tt) (lit≤ tt)).sound.past 1 (record {
+      genotype = 0;
+      quantum = 0;
+      first_effort = None;
+      second_effort = None;
+    }) (lit≤ tt) in
     omega arith
 
 -- ---- the disturbance
@@ -239,7 +245,8 @@ late_sound =
       living_and_dead = refl;
       quanta = s.quanta;
       next_birth = omega arith;
-      small = one (λ c. (c.errors ≤ count_limit 0) × (c.moved ≤ count_limit 0) × (c.ran ≤ count_limit 0) × (c.bred ≤ count_limit 0)) (omega arith, omega arith, omega arith, omega arith);
+      small = one (λ c. (c.errors ≤ count_limit 0) × (c.moved ≤ count_limit 0) × (c.ran ≤ count_limit 0) × (c.bred ≤ count_limit 0))
+          (omega arith, omega arith, omega arith, omega arith);
       coded_once = s.coded_once;
       written = s.written;
       parents = s.parents;

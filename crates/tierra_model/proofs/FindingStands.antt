@@ -36,7 +36,8 @@ seen_soup-same (c ∷ cs) soup w p h n e =
       | inr a ↦ get_or-set_other soup c.0 p c.1 0 (λ b. a.1 (sym b)) ∙ e
     ])
 
-seen_soup-agrees : (cs : List (ℕ × ℕ)) (soup : List ℕ) (w : World) → CellsAgree cs w → length soup ≡ length w.soup → CellsAgree cs (record w { soup = seen_soup cs soup })
+seen_soup-agrees : (cs : List (ℕ × ℕ)) (soup : List ℕ) (w : World) → CellsAgree cs w → length soup ≡ length w.soup
+    → CellsAgree cs (record w { soup = seen_soup cs soup })
 seen_soup-agrees [] soup w h n = tt
 seen_soup-agrees (c ∷ cs) soup w h n =
     let after : List ℕ = slice_set soup c.0 c.1 in
@@ -77,12 +78,15 @@ finding_stands w s few =
       (λ e. noted-is x.yard_noted x.start.yard [] (sym g.notes.yard_noted ∙ e) ∙ ap (λ (c : Scene). c.yard) own.start),
     ) in
     let y : SceneRun = run scene_machine w.settings q k (run_start t) in
-    let h : Follows w t y l = follows-log w t q k (run_start t) (empty_log w) (follows-start t w s refl refl (length-seen_soup x.cells zeros ∙ length-replicate w.settings.soup_size 0)) agrees in
+    let h : Follows w t y l = follows-log w t q k (run_start t) (empty_log w)
+    (follows-start t w s refl refl (length-seen_soup x.cells zeros ∙ length-replicate w.settings.soup_size 0)) agrees in
     let same : run_in_scene t ≡ y = (let n : w.quanta + 1 - 1 + 1 ≡ q = omega arith in ap (λ (j : ℕ). run scene_machine w.settings j k (run_start t)) n) in
     let reads : reads_of y ≡ reads_of x = (λ i. let r : Reads = record {
       cells = (sym h.notes.cells ∙ g.notes.cells) i;
-      free = noted-same y.free_noted x.free_noted y.start.free x.start.free [] (sym h.notes.free_noted ∙ g.notes.free_noted) (ap (λ (c : Scene). c.free) h.began) i;
-      yard = noted-same y.yard_noted x.yard_noted y.start.yard x.start.yard [] (sym h.notes.yard_noted ∙ g.notes.yard_noted) (ap (λ (c : Scene). c.yard) h.began) i;
+      free = noted-same y.free_noted x.free_noted y.start.free x.start.free [] (sym h.notes.free_noted ∙ g.notes.free_noted)
+          (ap (λ (c : Scene). c.free) h.began) i;
+      yard = noted-same y.yard_noted x.yard_noted y.start.yard x.start.yard [] (sym h.notes.yard_noted ∙ g.notes.yard_noted)
+          (ap (λ (c : Scene). c.yard) h.began) i;
     } in r) in
     record {
       reads = ap reads_of same ∙ reads;

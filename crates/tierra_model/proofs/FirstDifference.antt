@@ -13,7 +13,8 @@ use Rattle.tierra_model.specs.declared.creatures.Block.{Block}
 use Rattle.tierra_model.specs.declared.creatures.Creature.{Creature}
 use Rattle.tierra_model.specs.declared.creatures.Standing.{Standing}
 use Rattle.tierra_model.specs.declared.history.Stale.TheVariants as stale
-use Rattle.tierra_model.specs.Difference.{ListDifference, same_block, same_standing, same_creature, list_difference, or_else, of_front, of_cells, of_free, of_yard, first_difference, DifferenceTells, IsLeast, LeastPlace}
+use Rattle.tierra_model.specs.Difference.{ListDifference, same_block, same_standing, same_creature, list_difference, or_else, of_front, of_cells, of_free}
+use Rattle.tierra_model.specs.Difference.{of_yard, first_difference, DifferenceTells, IsLeast, LeastPlace}
 use Rattle.tierra_model.specs.World.{World, front}
 use Rattle.tierra_model.specs.FreeList.{free_list}
 use Rattle.tierra_model.specs.Yard.{yard}
@@ -108,7 +109,8 @@ same_creature-self a =
 
 -- ---- lists
 
-list_difference-none : {X : Type 0} (same : X → X → Bool) → ((a b : X) → Decides (same a b) (a ≡ b)) → (k : ℕ) (xs ys : List X) → list_difference same k xs ys ≡ None → xs ≡ ys
+list_difference-none : {X : Type 0} (same : X → X → Bool) → ((a b : X) → Decides (same a b) (a ≡ b)) → (k : ℕ) (xs ys : List X)
+    → list_difference same k xs ys ≡ None → xs ≡ ys
 list_difference-none same d k [] [] h = refl
 list_difference-none same d k [] (y ∷ ys) h = cc
 list_difference-none same d k (x ∷ xs) [] h = cc
@@ -119,7 +121,8 @@ list_difference-none same d k (x ∷ xs) (y ∷ ys) h = go (same x y) refl h (li
     go true e h ih = (let a = (d x y).0 e in let r = ih h in λ i. a i ∷ r i)
     go false e h ih = cc
 
-list_difference-self : {X : Type 0} (same : X → X → Bool) → ((a b : X) → Decides (same a b) (a ≡ b)) → (k : ℕ) (xs : List X) → list_difference same k xs xs ≡ None
+list_difference-self : {X : Type 0} (same : X → X → Bool) → ((a b : X) → Decides (same a b) (a ≡ b)) → (k : ℕ) (xs : List X)
+    → list_difference same k xs xs ≡ None
 list_difference-self same d k [] = refl
 list_difference-self same d k (x ∷ xs) =
     ap (λ (b : Bool). if b then list_difference same (k + 1) xs xs else Some (record { place = k; seen = Some x; now = Some x })) ((d x x).1 refl)
@@ -221,21 +224,26 @@ of_cells-none (c ∷ cs) w h =
 
 of_free-agrees : (o : Option (List Block)) (now : List Block) → of_free o now ≡ None → SameIfSome o now
 of_free-agrees None now h = tt
-of_free-agrees (Some seen) now h = list_difference-none same_block decides-block 0 seen now (option_map-none (λ d. stale.Free d.place d.seen d.now) (list_difference same_block 0 seen now) h)
+of_free-agrees (Some seen) now h =
+    list_difference-none same_block decides-block 0 seen now (option_map-none (λ d. stale.Free d.place d.seen d.now) (list_difference same_block 0 seen now) h)
 
 of_free-none : (o : Option (List Block)) (now : List Block) → SameIfSome o now → of_free o now ≡ None
 of_free-none None now h = refl
 of_free-none (Some seen) now h =
-    subst (λ l. of_free (Some seen) l ≡ None) h (ap (λ (o : Option (ListDifference Block)). option_map (λ d. stale.Free d.place d.seen d.now) o) (list_difference-self same_block decides-block 0 seen))
+    subst (λ l. of_free (Some seen) l ≡ None) h (ap (λ (o : Option (ListDifference Block)). option_map (λ d. stale.Free d.place d.seen d.now) o)
+    (list_difference-self same_block decides-block 0 seen))
 
 of_yard-agrees : (o : Option (List Standing)) (now : List Standing) → of_yard o now ≡ None → SameIfSome o now
 of_yard-agrees None now h = tt
-of_yard-agrees (Some seen) now h = list_difference-none same_standing decides-standing 0 seen now (option_map-none (λ d. stale.Yard d.place d.seen d.now) (list_difference same_standing 0 seen now) h)
+of_yard-agrees (Some seen) now h =
+    list_difference-none same_standing decides-standing 0 seen now
+    (option_map-none (λ d. stale.Yard d.place d.seen d.now) (list_difference same_standing 0 seen now) h)
 
 of_yard-none : (o : Option (List Standing)) (now : List Standing) → SameIfSome o now → of_yard o now ≡ None
 of_yard-none None now h = refl
 of_yard-none (Some seen) now h =
-    subst (λ l. of_yard (Some seen) l ≡ None) h (ap (λ (o : Option (ListDifference Standing)). option_map (λ d. stale.Yard d.place d.seen d.now) o) (list_difference-self same_standing decides-standing 0 seen))
+    subst (λ l. of_yard (Some seen) l ≡ None) h (ap (λ (o : Option (ListDifference Standing)). option_map (λ d. stale.Yard d.place d.seen d.now) o)
+    (list_difference-self same_standing decides-standing 0 seen))
 
 or_else-none : {X : Type 0} (a b : Option X) → or_else a b ≡ None → (a ≡ None) × (b ≡ None)
 or_else-none None b h = (refl, h)

@@ -44,7 +44,8 @@ module _ (w : World) (start : Scene) where
 
   -- ---- an event
 
-  pub follows-event : (e : Event) (x : SceneRun) (l : Log) → (f : Follows w start x l) → CanHappen f.before e → KnowsYard w x e → Follows w start (with_event x e) (log_machine.apply l e)
+  pub follows-event : (e : Event) (x : SceneRun) (l : Log) → (f : Follows w start x l) → CanHappen f.before e → KnowsYard w x e
+      → Follows w start (with_event x e) (log_machine.apply l e)
   follows-event e x l f c k =
       record {
         began = f.began;
@@ -158,7 +159,8 @@ module _ (w : World) (start : Scene) where
             (stands-put w.next_birth c v.living (subst (λ n. Shares (one_of v.living n) c) (sym number) fits) here) v.reaper;
       }
 
-  pub follows-put : (c : Creature) (x : SceneRun) (l : Log) → Follows w start x l → Shares x.now.front c → Follows w start (scene_machine.put c x) (log_machine.put c l)
+  pub follows-put : (c : Creature) (x : SceneRun) (l : Log) → Follows w start x l → Shares x.now.front c
+      → Follows w start (scene_machine.put c x) (log_machine.put c l)
   follows-put c x l f k =
       record {
         began = f.began;

@@ -52,7 +52,8 @@ module _ (w : World) (start : Scene) where
       ap (λ (u : World). is_owned u.living p) f.same
       ∙ is_owned-owners (with_record c v.living) p ∙ ap (λ (n : ℕ). nat_lt 0 n) sum ∙ sym (is_owned-owners v.living p)
 
-  free-shown : (x : SceneRun) (l : Log) (f : Follows w start x l) → SameFree → AlikeBelow w.settings.soup_size (scene_machine.owned x) (λ p. is_owned f.before.living p)
+  free-shown : (x : SceneRun) (l : Log) (f : Follows w start x l) → SameFree
+      → AlikeBelow w.settings.soup_size (scene_machine.owned x) (λ p. is_owned f.before.living p)
   free-shown x l f h = f.mirrors.free (ap (λ (t : Scene). t.free) f.began ∙ h)
 
   pub follows-owned : (x : SceneRun) (l : Log) → Follows w start x l → SameFree → AlikeBelow w.settings.soup_size (scene_machine.owned x) (log_machine.owned l)
@@ -89,7 +90,8 @@ module _ (w : World) (start : Scene) where
   pub follows-number : (x : SceneRun) (l : Log) → Follows w start x l → SameYard → length (scene_machine.reaper x) ≡ length (log_machine.reaper l)
   follows-number x l f h =
       ap (λ (y : List Standing). length (map (λ (t : Standing). t.id) y)) (yard-shown x l f h)
-      ∙ length-map (map (stands_as w.next_birth f.before.living) f.before.reaper) (λ (t : Standing). t.id) ∙ length-map f.before.reaper (stands_as w.next_birth f.before.living)
+      ∙ length-map (map (stands_as w.next_birth f.before.living) f.before.reaper)
+      (λ (t : Standing). t.id) ∙ length-map f.before.reaper (stands_as w.next_birth f.before.living)
       ∙ ap (λ (u : World). length u.reaper) (sym f.same)
 
   -- ---- what is done can happen
@@ -108,7 +110,8 @@ module _ (w : World) (start : Scene) where
   can-happen (event.Reap place) x l f d =
       let is = place_of_first_other-is (front l.now).id l.now.reaper place (sym (follows-victim w.settings x l f d.0) ∙ d.1) in (
         subst (λ n. place < n) (ap (λ (u : World). length u.reaper) f.same) is.0,
-        (λ a. is.1 (ap (λ (u : World). slice_index u.reaper place) f.same ∙ a ∙ sym f.mirrors.fits.id ∙ sym (ap (λ (c : Creature). c.id) (follows-front w start x l f)))),
+        (λ a. is.1 (ap (λ (u : World). slice_index u.reaper place) f.same ∙ a ∙ sym f.mirrors.fits.id
+            ∙ sym (ap (λ (c : Creature). c.id) (follows-front w start x l f)))),
       )
   can-happen (event.Divide ran moved) x l f d = (subst IsSome f.mirrors.fits.daughter d.0, d.1)
 

@@ -71,14 +71,16 @@ follows-start scene w s e a n =
         each_once = sound-each_once w s;
         number = ap (λ (c : Creature). c.id) (sym a) ∙ front-id w l;
         fits = subst (λ c. Shares (front w) c) a (record { id = refl; own = refl; daughter = refl; errors = refl; genotype = refl; bred = refl });
-        old = subst (λ (c : Creature). c.id < w.next_birth) a (rw (front-id w l) (sound-id_below w (first_of w.slicer) s (times-is_here w.living (first_of w.slicer) l.here)));
+        old = subst (λ (c : Creature). c.id < w.next_birth) a
+            (rw (front-id w l) (sound-id_below w (first_of w.slicer) s (times-is_here w.living (first_of w.slicer) l.here)));
         small = omega (arith, s.next_birth, s.quanta);
         next_birth = omega arith;
         settings = refl;
         scene_settings = sym e;
         cells = record { known = λ p k. cc; unknown = λ p k. refl; unread = λ p k. refl; sized = s.cells ∙ ap (λ (t : Settings). t.soup_size) e ∙ sym n };
         codes = cells_below w.soup s.codes;
-        free = λ h q k. ap (λ (b : List Block). not (is_in_some b q)) h ∙ ap not (runs_of_in w.settings.soup_size (λ p. not (is_owned w.living p)) q k) ∙ not_not (is_owned w.living q);
+        free = λ h q k. ap (λ (b : List Block). not (is_in_some b q)) h ∙ ap not (runs_of_in w.settings.soup_size (λ p. not (is_owned w.living p)) q k)
+            ∙ not_not (is_owned w.living q);
         yard = λ h. h ∙ map-cong-in (λ id. standing (one_of w.living id)) (stands_as w.next_birth w.living) w.reaper (λ id there.
             let n : 0 < times_in (ids_of w.living) id = rw (← s.reaper id) there in
             let i : (one_of w.living id).id ≡ renamed w.next_birth id =

@@ -48,7 +48,8 @@ count_from-alike n s t a p (suc k) h =
     let r : count_from s (p + 1) k ≡ count_from t (p + 1) k = count_from-alike n s t a (p + 1) k (omega arith) in
     cc
 
-pub first_fit_from-alike : (n size : ℕ) (s t : ℕ → Bool) → AlikeBelow n s t → (p k : ℕ) → (0 < k → p + k + size ≤ n + 1) → first_fit_from s size p k ≡ first_fit_from t size p k
+pub first_fit_from-alike : (n size : ℕ) (s t : ℕ → Bool) → AlikeBelow n s t → (p k : ℕ) → (0 < k → p + k + size ≤ n + 1)
+    → first_fit_from s size p k ≡ first_fit_from t size p k
 first_fit_from-alike n size s t a p zero h = refl
 first_fit_from-alike n size s t a p (suc k) h =
     let room : p + suc k + size ≤ n + 1 = h (omega arith) in
@@ -79,9 +80,11 @@ fit_from_free s size p (suc k) at h = go (count_from s p size == 0) refl h (fit_
 
 pub room_for-alike : (set : Settings) (s t : ℕ → Bool) (size : ℕ) → 1 ≤ size → AlikeBelow set.soup_size s t → room_for set s size ≡ room_for set t size
 room_for-alike set s t size one a =
-    ap (λ (c : ℕ). let o : Option ℕ = elim (nat_le ((c + size) * 100) (set.fill_percent * set.soup_size)) [ true ↦ first_fit set.soup_size s size | false ↦ None ] in o)
+    ap (λ (c : ℕ). let o : Option ℕ =
+    elim (nat_le ((c + size) * 100) (set.fill_percent * set.soup_size)) [ true ↦ first_fit set.soup_size s size | false ↦ None ] in o)
     (count_from-alike set.soup_size s t a 0 set.soup_size (omega arith))
-    ∙ ap (λ (r : Option ℕ). let o : Option ℕ = elim (nat_le ((filled set.soup_size t + size) * 100) (set.fill_percent * set.soup_size)) [ true ↦ r | false ↦ None ] in o)
+    ∙ ap (λ (r : Option ℕ). let o : Option ℕ =
+    elim (nat_le ((filled set.soup_size t + size) * 100) (set.fill_percent * set.soup_size)) [ true ↦ r | false ↦ None ] in o)
     (first_fit_from-alike set.soup_size size s t a 0 (set.soup_size + 1 - size) (λ some. omega arith))
 
 pub room_for_free : (set : Settings) (s : ℕ → Bool) (size at : ℕ) → room_for set s size ≡ Some at

@@ -1,5 +1,6 @@
 -- The list of genotypes stays a good one as one more individual is counted.
-use Rattle.std.proofs.Common.{◌≡◌, ℕ, zero, suc, ◌+◌, ◌<◌, ◌≤◌, Bool, true, false, List, [], ◌∷◌, ◌++◌, refl, sym, ◌∙◌, ap, subst, arith, ◌≢◌, length, length-append}
+use Rattle.std.proofs.Common.{◌≡◌, ℕ, zero, suc, ◌+◌, ◌<◌, ◌≤◌, Bool, true, false, List, [], ◌∷◌, ◌++◌, refl, sym, ◌∙◌, ap, subst, arith, ◌≢◌, length}
+use Rattle.std.proofs.Common.{length-append}
 use Rattle.std.specs.Prelude.{Some, None, Option, IfSome, All, option_map, if◌then◌else◌}
 use Rattle.std.specs.Str.{bytes_eq}
 use Rattle.std.proofs.lemmas.List.Elements.{All-nil, All-cons, All-head, All-tail, All-push, All-weaker}
@@ -86,9 +87,11 @@ times_coded-with_one_more (suc k) (g ∷ gs) code = omega (arith, times_coded-wi
 written-with_one_more : (k : ℕ) (gs : List Genotype) → All (λ g. IsCode g.code) gs → All (λ g. IsCode g.code) (with_one_more k gs)
 written-with_one_more k [] h = h
 written-with_one_more zero (g ∷ gs) h =
-    All-cons (λ (g : Genotype). IsCode g.code) (record g { total = g.total + 1 }) gs (All-head (λ (g : Genotype). IsCode g.code) g gs h) (All-tail (λ (g : Genotype). IsCode g.code) g gs h)
+    All-cons (λ (g : Genotype). IsCode g.code) (record g { total = g.total + 1 }) gs (All-head (λ (g : Genotype). IsCode g.code) g gs h)
+    (All-tail (λ (g : Genotype). IsCode g.code) g gs h)
 written-with_one_more (suc k) (g ∷ gs) h =
-    All-cons (λ (g : Genotype). IsCode g.code) g (with_one_more k gs) (All-head (λ (g : Genotype). IsCode g.code) g gs h) (written-with_one_more k gs (All-tail (λ (g : Genotype). IsCode g.code) g gs h))
+    All-cons (λ (g : Genotype). IsCode g.code) g (with_one_more k gs) (All-head (λ (g : Genotype). IsCode g.code) g gs h)
+    (written-with_one_more k gs (All-tail (λ (g : Genotype). IsCode g.code) g gs h))
 
 parents-with_one_more : (k : ℕ) (gs : List Genotype) (n : ℕ) → ParentsBelow n gs → ParentsBelow n (with_one_more k gs)
 parents-with_one_more k [] n h = tt
@@ -133,7 +136,8 @@ genotype_at-past [] j h = refl
 genotype_at-past (g ∷ gs) zero h = absurd (omega arith)
 genotype_at-past (g ∷ gs) (suc j) h = genotype_at-past gs j (omega arith)
 
-parents-append : (gs : List Genotype) (g : Genotype) (n m : ℕ) → n + length gs ≡ m → ParentsBelow n gs → IfSome g.parent (λ p. p < m) → ParentsBelow n (gs ++ g ∷ [])
+parents-append : (gs : List Genotype) (g : Genotype) (n m : ℕ) → n + length gs ≡ m → ParentsBelow n gs → IfSome g.parent (λ p. p < m)
+    → ParentsBelow n (gs ++ g ∷ [])
 parents-append [] g n m e h k = (subst (λ j. IfSome g.parent (λ p. p < j)) (omega arith) k, tt)
 parents-append (x ∷ gs) g n m e h k = (h.0, parents-append gs g (n + 1) m (omega arith) h.1 k)
 
@@ -149,7 +153,8 @@ pub record Counts (code : List ℕ) (gs hs : List Genotype) (k : ℕ) : Type 0 w
   pub same : (genotype_at hs k).total ≡ (genotype_at gs k).total + 1
   pub other : (j : ℕ) → j ≢ k → (genotype_at hs j).total ≡ (genotype_at gs j).total
 
-one_if-same : (code : List ℕ) (gs : List Genotype) → genotype_number code gs ≡ None → (c : List ℕ) → times_coded gs c ≤ 1 → times_coded gs c + one_if (bytes_eq code c) ≤ 1
+one_if-same : (code : List ℕ) (gs : List Genotype) → genotype_number code gs ≡ None → (c : List ℕ) → times_coded gs c ≤ 1
+    → times_coded gs c + one_if (bytes_eq code c) ≤ 1
 one_if-same code gs e c h = go (bytes_eq code c) refl
   where
     go : (b : Bool) → bytes_eq code c ≡ b → times_coded gs c + one_if b ≤ 1
@@ -159,7 +164,8 @@ one_if-same code gs e c h = go (bytes_eq code c) refl
         let none : times_coded gs c ≡ 0 = subst (λ (d : List ℕ). times_coded gs d ≡ 0) same (genotype_number-none code gs e) in
         omega arith
 
-pub with_individual-listed : (t : ℕ) (gs : List Genotype) (code : List ℕ) (parent : Option ℕ) (q : ℕ) → IsCode code → IfSome parent (λ p. p < length gs) → Listed t gs
+pub with_individual-listed : (t : ℕ) (gs : List Genotype) (code : List ℕ) (parent : Option ℕ) (q : ℕ) → IsCode code → IfSome parent (λ p. p < length gs)
+    → Listed t gs
     → Listed (t + 1) (with_individual gs code parent q).0 × Counts code gs (with_individual gs code parent q).0 (with_individual gs code parent q).1
 unfolding with_individual
 with_individual-listed t gs code parent q c p l = go (genotype_number code gs) refl
@@ -185,7 +191,8 @@ with_individual-listed t gs code parent q c p l = go (genotype_number code gs) r
         few = omega (arith, length-append gs (g ∷ []));
         coded = ap (λ (x : Genotype). x.code) (genotype_at-last gs g);
         codes = λ j h. ap (λ (x : Genotype). x.code) (genotype_at-append gs (g ∷ []) j h);
-        same = ap (λ (x : Genotype). x.total) (genotype_at-last gs g) ∙ sym (ap (λ (x : Genotype). x.total + 1) (genotype_at-past gs (length gs) (omega arith)));
+        same = ap (λ (x : Genotype). x.total) (genotype_at-last gs g)
+            ∙ sym (ap (λ (x : Genotype). x.total + 1) (genotype_at-past gs (length gs) (omega arith)));
         other = λ j n. new_other gs g j n;
       },
     )

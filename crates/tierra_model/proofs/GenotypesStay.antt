@@ -114,7 +114,8 @@ if_in q true s h = All-cons (SavedIn q) s [] h (All-nil (SavedIn q))
 if_in q false s h = All-nil (SavedIn q)
 
 adds-with_birth : (q ran moved : ℕ) (o : Option Block) (w u : World) → AddsSavings q w u
-    → AddsSavings q w (put (record_after (event.Divide ran moved) (front u)) (with_birth (genotypes_at_birth (front u) ran moved u.genotypes) o (front u).genotype u))
+    → AddsSavings q w (put (record_after (event.Divide ran moved) (front u))
+    (with_birth (genotypes_at_birth (front u) ran moved u.genotypes) o (front u).genotype u))
 adds-with_birth q ran moved None w u g = adds-put q (record_after (event.Divide ran moved) (front u)) w u g
 adds-with_birth q ran moved (Some b) w u g =
     let mother : Creature = front u in
@@ -129,7 +130,8 @@ adds-with_birth q ran moved (Some b) w u g =
     let more : List Saving = if due then s ∷ [] else [] in
     record {
       number = g.number;
-      genotypes = extends-trans w.genotypes known gs (extends-trans w.genotypes u.genotypes known g.genotypes (extends-with_effort_of mother.genotype (mother.bred + 1) effort u.genotypes))
+      genotypes = extends-trans w.genotypes known gs (extends-trans w.genotypes u.genotypes known g.genotypes
+          (extends-with_effort_of mother.genotype (mother.bred + 1) effort u.genotypes))
           (extends-with_individual known code (Some mother.genotype) (u.quanta + 1));
       added = g.added ++ more;
       saved = if_append due u.saved s ∙ ap (λ (l : List Saving). l ++ more) g.saved ∙ append_assoc w.saved g.added more;

@@ -47,7 +47,8 @@ run_agreed f w x e a = (
 abbrev run_in : World → Scene → SceneRun
 run_in w s = run scene_machine w.settings (w.quanta + 1) (slice_of (front w).own.size w.settings) (run_start s)
 
-run_in-same : (f : Finding) (w : World) → w.settings ≡ f.settings → w.quanta + 1 ≡ f.quantum → front w ≡ f.before → run_in_scene (scene_of_finding f) ≡ run_in w (scene_of_finding f)
+run_in-same : (f : Finding) (w : World) → w.settings ≡ f.settings → w.quanta + 1 ≡ f.quantum → front w ≡ f.before
+    → run_in_scene (scene_of_finding f) ≡ run_in w (scene_of_finding f)
 unfolding run_in_scene
 run_in-same f w e q c =
     let n : f.quantum - 1 + 1 ≡ w.quanta + 1 = omega arith in
@@ -68,8 +69,10 @@ law f w s st e q a =
     let k : ℕ = slice_of (front w).own.size w.settings in
     let g : Follows w scene x (run log_machine w.settings (w.quanta + 1) k (empty_log w)) =
     follows-run w scene (w.quanta + 1) k (run_start scene) (empty_log w)
-    (follows-start scene w s e a.front (length-seen_soup f.reads.cells (replicate f.settings.soup_size 0) ∙ length-replicate f.settings.soup_size 0)) (run_agreed f w x reads a) in
-    let same : replay f.events f.after w ≡ quantum w = sym (ap (λ (u : World). turn_end u) (sym (run-now w.settings (w.quanta + 1) k (empty_log w)) ∙ g.same ∙ ap (put x.now.front) g.mirrors.after_events)
+    (follows-start scene w s e a.front (length-seen_soup f.reads.cells (replicate f.settings.soup_size 0) ∙ length-replicate f.settings.soup_size 0))
+    (run_agreed f w x reads a) in
+    let same : replay f.events f.after w ≡ quantum w =
+    sym (ap (λ (u : World). turn_end u) (sym (run-now w.settings (w.quanta + 1) k (empty_log w)) ∙ g.same ∙ ap (put x.now.front) g.mirrors.after_events)
     ∙ (λ i. turn_end (put (after i) (after_events w (events i))))) in
     record {
       quantum = same;
@@ -77,6 +80,7 @@ law f w s st e q a =
         each = subst (CanAllHappen w) events g.mirrors.can;
         sound = subst IsSound (sym same) (quantum-sound w s (omega (arith, q, st.at_most_limit)));
         record_fits = shares-fits (front (after_events w f.events)) f.after
-            (subst (λ es. Shares (front (after_events w es)) f.after) events (subst (λ u. Shares (front u) f.after) g.mirrors.after_events (subst (Shares (front g.before)) after g.mirrors.fits)));
+            (subst (λ es. Shares (front (after_events w es)) f.after) events
+            (subst (λ u. Shares (front u) f.after) g.mirrors.after_events (subst (Shares (front g.before)) after g.mirrors.fits)));
       };
     }

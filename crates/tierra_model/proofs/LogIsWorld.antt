@@ -9,7 +9,8 @@ use Rattle.tierra_model.specs.declared.events.Act.TheVariants as act
 use Rattle.tierra_model.specs.Look.{Look, Answer, LookAt}
 use Rattle.tierra_model.specs.Draw.{word, back_flip}
 use Rattle.tierra_model.specs.Queue.{number_of_others}
-use Rattle.tierra_model.specs.Quantum.{world_machine, walk, give_up, take_block, victim, reap_at, reap, make_room, mal, perform, instruction, instructions, flip, reap_times, disturb, is_disturbed, run}
+use Rattle.tierra_model.specs.Quantum.{world_machine, walk, give_up, take_block, victim, reap_at, reap, make_room, mal, perform, instruction, instructions}
+use Rattle.tierra_model.specs.Quantum.{flip, reap_times, disturb, is_disturbed, run}
 use Rattle.tierra_model.specs.Step.{step, Outcome}
 use Rattle.tierra_model.specs.World.{World, front, put}
 use Rattle.tierra_model.specs.Room.{room_for}
@@ -26,7 +27,8 @@ reap-now s l = go (victim world_machine s l.now)
 room-now : (s : Settings) (size n : ℕ) (l : Log) → (make_room log_machine s size n l).now ≡ make_room world_machine s size n l.now
 room-now s size zero l = go (room_for s (log_machine.owned l) size)
   where
-    go : (o : Option ℕ) → (let r : Log = elim o [ Some at ↦ take_block log_machine s size at l | None ↦ log_machine.apply (log_machine.ask_reaper l) event.Err ] in r).now
+    go : (o : Option ℕ)
+        → (let r : Log = elim o [ Some at ↦ take_block log_machine s size at l | None ↦ log_machine.apply (log_machine.ask_reaper l) event.Err ] in r).now
         ≡ elim o [ Some at ↦ take_block world_machine s size at l.now | None ↦ apply_event l.now event.Err ]
     go (Some at) = refl
     go None = refl
@@ -87,7 +89,8 @@ reap_times-now : (s : Settings) (k : ℕ) (l : Log) → (reap_times log_machine 
 reap_times-now s zero l = refl
 reap_times-now s (suc k) l = go (victim world_machine s l.now) (λ p. reap_times-now s k (log_machine.apply l (event.Reap p)))
   where
-    go : (o : Option ℕ) → ((p : ℕ) → (reap_times log_machine s k (log_machine.apply l (event.Reap p))).now ≡ reap_times world_machine s k (apply_event l.now (event.Reap p)))
+    go : (o : Option ℕ)
+        → ((p : ℕ) → (reap_times log_machine s k (log_machine.apply l (event.Reap p))).now ≡ reap_times world_machine s k (apply_event l.now (event.Reap p)))
         → (let r : Log = elim o [ None ↦ l | Some p ↦ reap_times log_machine s k (log_machine.apply l (event.Reap p)) ] in r).now
         ≡ elim o [ None ↦ l.now | Some p ↦ reap_times world_machine s k (apply_event l.now (event.Reap p)) ]
     go None h = refl

@@ -79,7 +79,8 @@ mirrors-event w v x e m c k =
       has_front = d.has_front;
       each_once = each_once-event v e m.has_front m.each_once c;
       number = id ∙ m.number ∙ sym d.same;
-      fits = subst (λ a. Shares a (with_event x e).now.front) (sym d.front) (subst (λ a. Shares (record_after e (front v)) a) (sym f) (shares-event e (front v) x.now.front m.fits));
+      fits = subst (λ a. Shares a (with_event x e).now.front) (sym d.front)
+          (subst (λ a. Shares (record_after e (front v)) a) (sym f) (shares-event e (front v) x.now.front m.fits));
       old = rw id m.old;
       small = m.small;
       next_birth = next_birth-event v e c ∙ omega (arith, m.next_birth);

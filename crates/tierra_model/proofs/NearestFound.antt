@@ -113,7 +113,8 @@ nearest-found_by n cells ip way limit min = go (nat_lt (length vs) min) refl
         )
 
     go : (b : Bool) → nat_lt (length vs) min ≡ b
-        → IsFound n cells ip way limit min (cond b found.Short (found_at n (length vs) (find (is_complement n cells vs) (candidates n ip (length vs) way limit 1))))
+        → IsFound n cells ip way limit min (cond b found.Short
+        (found_at n (length vs) (find (is_complement n cells vs) (candidates n ip (length vs) way limit 1))))
     go true e = grind (arith, nat_tests)
     go false e =
         subst (λ o. IsFound n cells ip way limit min (found_at n (length vs) o)) (sym (find-pick n cells ip vs way limit 1))

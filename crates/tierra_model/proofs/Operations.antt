@@ -11,7 +11,8 @@ use Rattle.tierra_model.specs.declared.events.Act.TheVariants as act
 use Rattle.tierra_model.specs.Look.{Look, Answer, LookAt}
 use Rattle.tierra_model.specs.Draw.{word, back_flip}
 use Rattle.tierra_model.specs.Queue.{number_of_others}
-use Rattle.tierra_model.specs.Quantum.{Machine, walk, give_up, take_block, victim, reap_at, reap, make_room, mal, perform, instruction, instructions, flip, reap_times, disturb, is_disturbed, run}
+use Rattle.tierra_model.specs.Quantum.{Machine, walk, give_up, take_block, victim, reap_at, reap, make_room, mal, perform, instruction, instructions, flip}
+use Rattle.tierra_model.specs.Quantum.{reap_times, disturb, is_disturbed, run}
 use Rattle.tierra_model.specs.Step.{step, Outcome, flip_bit}
 use Rattle.tierra_model.specs.Room.{room_for}
 
@@ -51,7 +52,8 @@ module _ {S : Type 0} (P : Machine S) (s : Settings) (R : S → S → Type 0) (o
       go : (at : Option ℕ) → R x (elim at [ Some a ↦ take_block P s size a x | None ↦ P.apply (P.ask_reaper x) event.Err ])
       go (Some a) = two (event.Mal a size) event.Good x
       go None = errors_of x
-  each-make_room size (suc n) x = go (room_for s (P.owned x) size) (o.next x (reap P s x) (make_room P s size n (reap P s x)) (reaps x) (each-make_room size n (reap P s x)))
+  each-make_room size (suc n) x = go (room_for s (P.owned x) size)
+      (o.next x (reap P s x) (make_room P s size n (reap P s x)) (reaps x) (each-make_room size n (reap P s x)))
     where
       go : (at : Option ℕ) → R x (make_room P s size n (reap P s x))
           → R x (elim at [ Some a ↦ take_block P s size a x | None ↦ make_room P s size n (reap P s x) ])

@@ -16,7 +16,8 @@ use Rattle.tierra_model.specs.Sound.{Ordered}
 use Rattle.tierra_model.specs.Individuals.{with_individual, genotypes_at_birth}
 use Rattle.tierra_model.specs.Events.{apply_event, record_after, with_birth, with_death}
 use Rattle.tierra_model.specs.Replay.{CanHappen}
-use Rattle.tierra_model.proofs.Owners.{ids_of-with, ids_of-append, ids_of-without, times_in-append, times_in-filter_same, times_in-filter_other, times_in-without, sum_of-without}
+use Rattle.tierra_model.proofs.Owners.{ids_of-with, ids_of-append, ids_of-without, times_in-append, times_in-filter_same, times_in-filter_other}
+use Rattle.tierra_model.proofs.Owners.{times_in-without, sum_of-without}
 use Rattle.tierra_model.proofs.Commutes.{HasFront}
 use Rattle.tierra_model.proofs.EachOnce.{EachOnce}
 use Rattle.tierra_model.proofs.EventsKeep.{front-event, each_once-event, reaped-is_here}
@@ -126,28 +127,50 @@ nonzero n h = grind (arith, nat_tests)
 
 in_bounds-newborn : (n e m id g : ℕ) (b : Block) → IsBlock n b → InBounds n e m (newborn id b g)
 in_bounds-newborn n e m id g b h =
-    record { own = h; daughter = tt; ip = omega (arith, h.0, h.2); sp = omega arith; errors = omega arith; moved = omega arith; ran = omega arith; bred = omega arith }
+    record {
+      own = h;
+      daughter = tt;
+      ip = omega (arith, h.0, h.2);
+      sp = omega arith;
+      errors = omega arith;
+      moved = omega arith;
+      ran = omega arith;
+      bred = omega arith;
+    }
 
 abbrev Divided : ℕ → ℕ → List Genotype → World → Option Block → World
 Divided ran moved known w d = put (record_after (event.Divide ran moved) (front w)) (with_birth known d (front w).genotype w)
 
 population-divide : (n e m b e' b' ran moved : ℕ) (known : List Genotype) (w : World) (d : Option Block) → Population n e m b w → e + 1 ≤ e' → b + 1 ≤ b'
-    → IfSome d (IsBlock n) → IsSome d → HasFront (Divided ran moved known w d) → EachOnce (Divided ran moved known w d) → Population n e' m b' (Divided ran moved known w d)
+    → IfSome d (IsBlock n) → IsSome d → HasFront (Divided ran moved known w d) → EachOnce (Divided ran moved known w d)
+    → Population n e' m b' (Divided ran moved known w d)
 population-divide n e m b e' b' ran moved known w None p he hb h k l t = (let z : false ≡ true = k in cc)
 population-divide n e m b e' b' ran moved known w (Some x) p he hb h k l t =
     let g : ℕ = (with_individual known (slice_range w.soup x.at (x.at + x.size)) (Some (front w).genotype) (w.quanta + 1)).1 in
     let nb : Creature = newborn w.next_birth x g in
     let d : Creature = record_after (event.Divide ran moved) (front w) in
     let f = front-in_bounds n e m b w p in
-    let ids : ids_of (with_record d (w.living ++ nb ∷ [])) ≡ ids_of w.living ++ w.next_birth ∷ [] = ids_of-with d (w.living ++ nb ∷ []) ∙ ids_of-append w.living (nb ∷ []) in
+    let ids : ids_of (with_record d (w.living ++ nb ∷ [])) ≡ ids_of w.living ++ w.next_birth ∷ [] =
+    ids_of-with d (w.living ++ nb ∷ []) ∙ ids_of-append w.living (nb ∷ []) in
     let none : (w.next_birth == 0) ≡ false = nonzero w.next_birth (omega (arith, p.count)) in
     record {
       has_front = l;
       each_once = t;
       size = p.size;
       cells = p.cells;
-      each = each-with (InBounds n e' m) d (w.living ++ nb ∷ []) (record { own = f.own; daughter = tt; ip = f.ip; sp = f.sp; errors = omega (arith, f.errors); moved = omega arith; ran = omega arith; bred = omega (arith, f.bred) })
-          (each-append (InBounds n e' m) w.living (nb ∷ []) (each-weaker n e m e' m w.living (omega arith) (omega arith) p.each) (in_bounds-newborn n e' m w.next_birth g x h, tt));
+      each = each-with (InBounds n e' m) d (w.living ++ nb ∷ [])
+          (record {
+            own = f.own;
+            daughter = tt;
+            ip = f.ip;
+            sp = f.sp;
+            errors = omega (arith, f.errors);
+            moved = omega arith;
+            ran = omega arith;
+            bred = omega (arith, f.bred);
+          })
+          (each-append (InBounds n e' m) w.living (nb ∷ []) (each-weaker n e m e' m w.living (omega arith) (omega arith) p.each)
+          (in_bounds-newborn n e' m w.next_birth g x h, tt));
       slicer = λ id. times_in-append w.slicer (w.next_birth ∷ []) id ∙ ap (λ (q : ℕ). q + times_in (w.next_birth ∷ []) id) (p.slicer id)
           ∙ sym (ap (λ (y : List ℕ). times_in y id) ids ∙ times_in-append (ids_of w.living) (w.next_birth ∷ []) id);
       order = subst (Ordered 1) (sym ids) (ordered-push 1 w.next_birth (ids_of w.living) (omega (arith, p.count)) p.each_once.fresh p.order);
@@ -158,11 +181,18 @@ population-divide n e m b e' b' ran moved known w (Some x) p he hb h k l t =
     }
 
 population-reap : (place n e m b : ℕ) (w : World) → Population n e m b w → place < length w.reaper
-    → HasFront (with_death (slice_index w.reaper place) w) → EachOnce (with_death (slice_index w.reaper place) w) → Population n e m b (with_death (slice_index w.reaper place) w)
+    → HasFront (with_death (slice_index w.reaper place) w) → EachOnce (with_death (slice_index w.reaper place) w)
+    → Population n e m b (with_death (slice_index w.reaper place) w)
 population-reap place n e m b w p k l t =
     let id : ℕ = slice_index w.reaper place in
     let one : length (without id w.living) + 1 ≡ length w.living =
-    omega (arith, sum_of-without (λ _. 1) w.living id (reaped-is_here w place p.each_once k) (p.each_once.once id), sum_of-ones w.living, sum_of-ones (without id w.living)) in
+    omega (
+      arith,
+      sum_of-without (λ _. 1) w.living id (reaped-is_here w place p.each_once k) (p.each_once.once id),
+      sum_of-ones w.living,
+      sum_of-ones
+          (without id w.living),
+    ) in
     record {
       has_front = l;
       each_once = t;
@@ -218,19 +248,40 @@ population-event event.Good n e m b e' b' w p k he hb =
 population-event event.Err n e m b e' b' w p k he hb =
     let v : Event = event.Err in
     let f = front-in_bounds n e m b w p in
-    population-with (record_after v (front w)) (apply_event w v).reaper n e m b e' m b' w p (front-event w v p.has_front k).has_front (each_once-event w v p.has_front p.each_once k)
+    population-with (record_after v (front w)) (apply_event w v).reaper n e m b e' m b' w p (front-event w v p.has_front k).has_front
+    (each_once-event w v p.has_front p.each_once k)
     (omega arith) (omega arith) (omega arith)
-    (record { own = f.own; daughter = f.daughter; ip = f.ip; sp = f.sp; errors = omega (arith, f.errors); moved = f.moved; ran = f.ran; bred = omega (arith, f.bred) })
+    (record {
+      own = f.own;
+      daughter = f.daughter;
+      ip = f.ip;
+      sp = f.sp;
+      errors = omega (arith, f.errors);
+      moved = f.moved;
+      ran = f.ran;
+      bred = omega (arith, f.bred);
+    })
 population-event event.GiveUp n e m b e' b' w p k he hb =
     let v : Event = event.GiveUp in
     let f = front-in_bounds n e m b w p in
-    population-with (record_after v (front w)) w.reaper n e m b e' m b' w p (front-event w v p.has_front k).has_front (each_once-event w v p.has_front p.each_once k)
+    population-with (record_after v (front w)) w.reaper n e m b e' m b' w p (front-event w v p.has_front k).has_front
+    (each_once-event w v p.has_front p.each_once k)
     (omega arith) (omega arith) (omega arith)
-    (record { own = f.own; daughter = tt; ip = f.ip; sp = f.sp; errors = omega (arith, f.errors); moved = omega arith; ran = f.ran; bred = omega (arith, f.bred) })
+    (record {
+      own = f.own;
+      daughter = tt;
+      ip = f.ip;
+      sp = f.sp;
+      errors = omega (arith, f.errors);
+      moved = omega arith;
+      ran = f.ran;
+      bred = omega (arith, f.bred);
+    })
 population-event (event.Mal at size) n e m b e' b' w p k he hb =
     let v : Event = event.Mal at size in
     let f = front-in_bounds n e m b w p in
-    population-with (record_after v (front w)) w.reaper n e m b e' m b' w p (front-event w v p.has_front k).has_front (each_once-event w v p.has_front p.each_once k)
+    population-with (record_after v (front w)) w.reaper n e m b e' m b' w p (front-event w v p.has_front k).has_front
+    (each_once-event w v p.has_front p.each_once k)
     (omega arith) (omega arith) (omega arith) (record {
       own = f.own;
       daughter = subst (λ j. IsBlock j (record { at = at; size = size })) p.size k.1;

@@ -3,7 +3,9 @@ use Rattle.std.proofs.Common.{◌≡◌, ℕ, ◌+◌, ◌*◌, ◌%◌, ◌^◌
 use Rattle.std.specs.Prelude.{Some, None, Option, IsSome, is_some, ℤ, pos, negsuc, if◌then◌else◌, ◌||◌, ◌&&◌, nat_le, slice_index}
 use Rattle.tierra_model.specs.declared.limits.TheConstants.{MOST_SIZE}
 use Rattle.tierra_model.specs.declared.ops.Op.{Op}
-use Rattle.tierra_model.specs.declared.ops.Op.TheVariants.{Nop0, Nop1, Or1, Shl, Zero, IfCz, SubAb, SubAc, IncA, IncB, DecC, IncC, PushAx, PushBx, PushCx, PushDx, PopAx, PopBx, PopCx, PopDx, Jmp, JmpB, Call, Ret, MovCd, MovAb, MovIab, Adr, AdrB, AdrF, Mal, Divide}
+use Rattle.tierra_model.specs.declared.ops.Op.TheVariants.{Nop0, Nop1, Or1, Shl, Zero, IfCz, SubAb, SubAc, IncA, IncB, DecC, IncC, PushAx, PushBx, PushCx}
+use Rattle.tierra_model.specs.declared.ops.Op.TheVariants.{PushDx, PopAx, PopBx, PopCx, PopDx, Jmp, JmpB, Call, Ret, MovCd, MovAb, MovIab, Adr, AdrB, AdrF, Mal}
+use Rattle.tierra_model.specs.declared.ops.Op.TheVariants.{Divide}
 use Rattle.tierra_model.specs.declared.parameters.Settings.{Settings}
 use Rattle.tierra_model.specs.declared.creatures.Creature.{Creature}
 use Rattle.tierra_model.specs.declared.searching.Found.{Found}
@@ -82,10 +84,21 @@ unfolding address
 address_below (pos k) n h = omega arith
 address_below (negsuc k) n h = omega arith
 
-copy_keeps : (s : Settings) (d c : Creature) (from to : ℕ) (bit : Option ℕ) → BitOf bit → to < s.soup_size → Shares d c → Always (Keeps s d) (copy c from to bit)
+copy_keeps : (s : Settings) (d c : Creature) (from to : ℕ) (bit : Option ℕ) → BitOf bit → to < s.soup_size → Shares d c
+    → Always (Keeps s d) (copy c from to bit)
 copy_keeps s d c from to bit b h f =
     if_always (Keeps s d) (is_in c.own to || is_in_daughter c.daughter to) _ _
-    (λ v below. (record { id = f.id; own = f.own; daughter = f.daughter; errors = f.errors; genotype = f.genotype; bred = f.bred }, (h, flipped_below v bit below b))) (f, tt)
+    (λ v below. (
+      record {
+        id = f.id;
+        own = f.own;
+        daughter = f.daughter;
+        errors = f.errors;
+        genotype = f.genotype;
+        bred = f.bred;
+      },
+      (h, flipped_below v bit below b),
+    )) (f, tt)
 
 mal_can : (s : Settings) (d : Creature) (size : ℕ) (z : ℤ) → CanDo s d (mal_act (mal_request s size z))
 mal_can s d size (negsuc k) = tt
@@ -107,48 +120,117 @@ divide_can s c h = go c.daughter refl
     go None e = tt
     go (Some b) e = pick b (may_divide s (Some b) c.moved) e
 
-execute_keeps : (s : Settings) (f : ℤ) (bit : Option ℕ) (ip : ℕ) (d c : Creature) (op : Op) → BitOf bit → Shares d c → 1 ≤ c.ran → Always (Keeps s d) (execute s f bit ip c op)
+execute_keeps : (s : Settings) (f : ℤ) (bit : Option ℕ) (ip : ℕ) (d c : Creature) (op : Op) → BitOf bit → Shares d c → 1 ≤ c.ran
+    → Always (Keeps s d) (execute s f bit ip c op)
 execute_keeps s f bit ip d c Nop0 b k h = (k, tt)
 execute_keeps s f bit ip d c Nop1 b k h = (k, tt)
 execute_keeps s f bit ip d c Or1 b k h = (record { id = k.id; own = k.own; daughter = k.daughter; errors = k.errors; genotype = k.genotype; bred = k.bred }, tt)
 execute_keeps s f bit ip d c Shl b k h = (record { id = k.id; own = k.own; daughter = k.daughter; errors = k.errors; genotype = k.genotype; bred = k.bred }, tt)
-execute_keeps s f bit ip d c Zero b k h = (record { id = k.id; own = k.own; daughter = k.daughter; errors = k.errors; genotype = k.genotype; bred = k.bred }, tt)
-execute_keeps s f bit ip d c IfCz b k h = (record { id = k.id; own = k.own; daughter = k.daughter; errors = k.errors; genotype = k.genotype; bred = k.bred }, tt)
-execute_keeps s f bit ip d c SubAb b k h = (record { id = k.id; own = k.own; daughter = k.daughter; errors = k.errors; genotype = k.genotype; bred = k.bred }, tt)
-execute_keeps s f bit ip d c SubAc b k h = (record { id = k.id; own = k.own; daughter = k.daughter; errors = k.errors; genotype = k.genotype; bred = k.bred }, tt)
-execute_keeps s f bit ip d c IncA b k h = (record { id = k.id; own = k.own; daughter = k.daughter; errors = k.errors; genotype = k.genotype; bred = k.bred }, tt)
-execute_keeps s f bit ip d c IncB b k h = (record { id = k.id; own = k.own; daughter = k.daughter; errors = k.errors; genotype = k.genotype; bred = k.bred }, tt)
-execute_keeps s f bit ip d c DecC b k h = (record { id = k.id; own = k.own; daughter = k.daughter; errors = k.errors; genotype = k.genotype; bred = k.bred }, tt)
-execute_keeps s f bit ip d c IncC b k h = (record { id = k.id; own = k.own; daughter = k.daughter; errors = k.errors; genotype = k.genotype; bred = k.bred }, tt)
-execute_keeps s f bit ip d c PushAx b k h = (record { id = k.id; own = k.own; daughter = k.daughter; errors = k.errors; genotype = k.genotype; bred = k.bred }, tt)
-execute_keeps s f bit ip d c PushBx b k h = (record { id = k.id; own = k.own; daughter = k.daughter; errors = k.errors; genotype = k.genotype; bred = k.bred }, tt)
-execute_keeps s f bit ip d c PushCx b k h = (record { id = k.id; own = k.own; daughter = k.daughter; errors = k.errors; genotype = k.genotype; bred = k.bred }, tt)
-execute_keeps s f bit ip d c PushDx b k h = (record { id = k.id; own = k.own; daughter = k.daughter; errors = k.errors; genotype = k.genotype; bred = k.bred }, tt)
-execute_keeps s f bit ip d c PopAx b k h = (record { id = k.id; own = k.own; daughter = k.daughter; errors = k.errors; genotype = k.genotype; bred = k.bred }, tt)
-execute_keeps s f bit ip d c PopBx b k h = (record { id = k.id; own = k.own; daughter = k.daughter; errors = k.errors; genotype = k.genotype; bred = k.bred }, tt)
-execute_keeps s f bit ip d c PopCx b k h = (record { id = k.id; own = k.own; daughter = k.daughter; errors = k.errors; genotype = k.genotype; bred = k.bred }, tt)
-execute_keeps s f bit ip d c PopDx b k h = (record { id = k.id; own = k.own; daughter = k.daughter; errors = k.errors; genotype = k.genotype; bred = k.bred }, tt)
+execute_keeps s f bit ip d c Zero b k h =
+    (record { id = k.id; own = k.own; daughter = k.daughter; errors = k.errors; genotype = k.genotype; bred = k.bred }, tt)
+execute_keeps s f bit ip d c IfCz b k h =
+    (record { id = k.id; own = k.own; daughter = k.daughter; errors = k.errors; genotype = k.genotype; bred = k.bred }, tt)
+execute_keeps s f bit ip d c SubAb b k h =
+    (record { id = k.id; own = k.own; daughter = k.daughter; errors = k.errors; genotype = k.genotype; bred = k.bred }, tt)
+execute_keeps s f bit ip d c SubAc b k h =
+    (record { id = k.id; own = k.own; daughter = k.daughter; errors = k.errors; genotype = k.genotype; bred = k.bred }, tt)
+execute_keeps s f bit ip d c IncA b k h =
+    (record { id = k.id; own = k.own; daughter = k.daughter; errors = k.errors; genotype = k.genotype; bred = k.bred }, tt)
+execute_keeps s f bit ip d c IncB b k h =
+    (record { id = k.id; own = k.own; daughter = k.daughter; errors = k.errors; genotype = k.genotype; bred = k.bred }, tt)
+execute_keeps s f bit ip d c DecC b k h =
+    (record { id = k.id; own = k.own; daughter = k.daughter; errors = k.errors; genotype = k.genotype; bred = k.bred }, tt)
+execute_keeps s f bit ip d c IncC b k h =
+    (record { id = k.id; own = k.own; daughter = k.daughter; errors = k.errors; genotype = k.genotype; bred = k.bred }, tt)
+execute_keeps s f bit ip d c PushAx b k h =
+    (record { id = k.id; own = k.own; daughter = k.daughter; errors = k.errors; genotype = k.genotype; bred = k.bred }, tt)
+execute_keeps s f bit ip d c PushBx b k h =
+    (record { id = k.id; own = k.own; daughter = k.daughter; errors = k.errors; genotype = k.genotype; bred = k.bred }, tt)
+execute_keeps s f bit ip d c PushCx b k h =
+    (record { id = k.id; own = k.own; daughter = k.daughter; errors = k.errors; genotype = k.genotype; bred = k.bred }, tt)
+execute_keeps s f bit ip d c PushDx b k h =
+    (record { id = k.id; own = k.own; daughter = k.daughter; errors = k.errors; genotype = k.genotype; bred = k.bred }, tt)
+execute_keeps s f bit ip d c PopAx b k h =
+    (record { id = k.id; own = k.own; daughter = k.daughter; errors = k.errors; genotype = k.genotype; bred = k.bred }, tt)
+execute_keeps s f bit ip d c PopBx b k h =
+    (record { id = k.id; own = k.own; daughter = k.daughter; errors = k.errors; genotype = k.genotype; bred = k.bred }, tt)
+execute_keeps s f bit ip d c PopCx b k h =
+    (record { id = k.id; own = k.own; daughter = k.daughter; errors = k.errors; genotype = k.genotype; bred = k.bred }, tt)
+execute_keeps s f bit ip d c PopDx b k h =
+    (record { id = k.id; own = k.own; daughter = k.daughter; errors = k.errors; genotype = k.genotype; bred = k.bred }, tt)
 execute_keeps s f bit ip d c Jmp b k h =
-    always-any (Keeps s d) (search_for s.soup_size ip Outward s.search_limit s.min_template) _ (λ found. found_keeps s d c _ found (λ p. record { id = k.id; own = k.own; daughter = k.daughter; errors = k.errors; genotype = k.genotype; bred = k.bred }) k)
+    always-any (Keeps s d) (search_for s.soup_size ip Outward s.search_limit s.min_template) _
+    (λ found. found_keeps s d c _ found (λ p. record {
+      id = k.id;
+      own = k.own;
+      daughter = k.daughter;
+      errors = k.errors;
+      genotype = k.genotype;
+      bred = k.bred;
+    }) k)
 execute_keeps s f bit ip d c JmpB b k h =
-    always-any (Keeps s d) (search_for s.soup_size ip Backward s.search_limit s.min_template) _ (λ found. found_keeps s d c _ found (λ p. record { id = k.id; own = k.own; daughter = k.daughter; errors = k.errors; genotype = k.genotype; bred = k.bred }) k)
+    always-any (Keeps s d) (search_for s.soup_size ip Backward s.search_limit s.min_template) _
+    (λ found. found_keeps s d c _ found (λ p. record {
+      id = k.id;
+      own = k.own;
+      daughter = k.daughter;
+      errors = k.errors;
+      genotype = k.genotype;
+      bred = k.bred;
+    }) k)
 execute_keeps s f bit ip d c Call b k h =
-    always-any (Keeps s d) (search_for s.soup_size ip Outward s.search_limit s.min_template) _ (λ found. found_keeps s d c _ found (λ p. record { id = k.id; own = k.own; daughter = k.daughter; errors = k.errors; genotype = k.genotype; bred = k.bred }) k)
+    always-any (Keeps s d) (search_for s.soup_size ip Outward s.search_limit s.min_template) _
+    (λ found. found_keeps s d c _ found (λ p. record {
+      id = k.id;
+      own = k.own;
+      daughter = k.daughter;
+      errors = k.errors;
+      genotype = k.genotype;
+      bred = k.bred;
+    }) k)
 execute_keeps s f bit ip d c Ret b k h = (record { id = k.id; own = k.own; daughter = k.daughter; errors = k.errors; genotype = k.genotype; bred = k.bred }, tt)
-execute_keeps s f bit ip d c MovCd b k h = (record { id = k.id; own = k.own; daughter = k.daughter; errors = k.errors; genotype = k.genotype; bred = k.bred }, tt)
-execute_keeps s f bit ip d c MovAb b k h = (record { id = k.id; own = k.own; daughter = k.daughter; errors = k.errors; genotype = k.genotype; bred = k.bred }, tt)
-execute_keeps s f bit ip d c MovIab b k h = copy_keeps s d c (address c.bx s.soup_size) (address c.ax s.soup_size) bit b (address_below c.ax s.soup_size (omega (arith, s.soup))) k
+execute_keeps s f bit ip d c MovCd b k h =
+    (record { id = k.id; own = k.own; daughter = k.daughter; errors = k.errors; genotype = k.genotype; bred = k.bred }, tt)
+execute_keeps s f bit ip d c MovAb b k h =
+    (record { id = k.id; own = k.own; daughter = k.daughter; errors = k.errors; genotype = k.genotype; bred = k.bred }, tt)
+execute_keeps s f bit ip d c MovIab b k h = copy_keeps s d c (address c.bx s.soup_size)
+    (address c.ax s.soup_size) bit b (address_below c.ax s.soup_size (omega (arith, s.soup))) k
 execute_keeps s f bit ip d c Adr b k h =
-    always-any (Keeps s d) (search_for s.soup_size ip Outward s.search_limit s.min_template) _ (λ found. found_keeps s d c _ found (λ p. record { id = k.id; own = k.own; daughter = k.daughter; errors = k.errors; genotype = k.genotype; bred = k.bred }) k)
+    always-any (Keeps s d) (search_for s.soup_size ip Outward s.search_limit s.min_template) _
+    (λ found. found_keeps s d c _ found (λ p. record {
+      id = k.id;
+      own = k.own;
+      daughter = k.daughter;
+      errors = k.errors;
+      genotype = k.genotype;
+      bred = k.bred;
+    }) k)
 execute_keeps s f bit ip d c AdrB b k h =
-    always-any (Keeps s d) (search_for s.soup_size ip Backward s.search_limit s.min_template) _ (λ found. found_keeps s d c _ found (λ p. record { id = k.id; own = k.own; daughter = k.daughter; errors = k.errors; genotype = k.genotype; bred = k.bred }) k)
+    always-any (Keeps s d) (search_for s.soup_size ip Backward s.search_limit s.min_template) _
+    (λ found. found_keeps s d c _ found (λ p. record {
+      id = k.id;
+      own = k.own;
+      daughter = k.daughter;
+      errors = k.errors;
+      genotype = k.genotype;
+      bred = k.bred;
+    }) k)
 execute_keeps s f bit ip d c AdrF b k h =
-    always-any (Keeps s d) (search_for s.soup_size ip Forward s.search_limit s.min_template) _ (λ found. found_keeps s d c _ found (λ p. record { id = k.id; own = k.own; daughter = k.daughter; errors = k.errors; genotype = k.genotype; bred = k.bred }) k)
+    always-any (Keeps s d) (search_for s.soup_size ip Forward s.search_limit s.min_template) _
+    (λ found. found_keeps s d c _ found (λ p. record {
+      id = k.id;
+      own = k.own;
+      daughter = k.daughter;
+      errors = k.errors;
+      genotype = k.genotype;
+      bred = k.bred;
+    }) k)
 execute_keeps s f bit ip d c Mal b k h = (k, mal_can s c c.own.size c.cx)
 execute_keeps s f bit ip d c Divide b k h = (k, divide_can s c h)
 
 pub step_keeps : (s : Settings) (draw : ℕ → ℕ) (i : ℕ) (d c : Creature) → Shares d c → Always (Keeps s d) (step s draw i c)
 unfolding step
 step_keeps s draw i d c k = λ v below.
-    execute_keeps s (flaw s.flaw_rate draw i) (copy_bit s.copy_rate draw i) c.ip d (record c { ip = (c.ip + 1) % s.soup_size; flag = 0; ran = c.ran + 1 }) (op_of v) (copy_bit_of s.copy_rate draw i)
+    execute_keeps s (flaw s.flaw_rate draw i) (copy_bit s.copy_rate draw i) c.ip d (record c { ip = (c.ip + 1) % s.soup_size; flag = 0; ran = c.ran + 1 })
+    (op_of v) (copy_bit_of s.copy_rate draw i)
     (record { id = k.id; own = k.own; daughter = k.daughter; errors = k.errors; genotype = k.genotype; bred = k.bred }) (omega arith)

@@ -75,7 +75,8 @@ efforts_at (g ∷ gs) (suc k) h l = efforts_at gs k (All-tail HasEfforts g gs h)
 stays : (a n m : ℕ) → m ≡ n + 1 → m ≢ a → one_if (nat_le a n) ≡ one_if (nat_le a m)
 stays a n m e h = grind (arith, nat_tests)
 
-pub saves-with_individual : (q z save_at : ℕ) (gs hs : List Genotype) (code : List ℕ) (k : ℕ) (saved : List Saving) → Counts code gs hs k → All HasEfforts hs → Saves q z save_at gs saved
+pub saves-with_individual : (q z save_at : ℕ) (gs hs : List Genotype) (code : List ℕ) (k : ℕ) (saved : List Saving) → Counts code gs hs k → All HasEfforts hs
+    → Saves q z save_at gs saved
     → Saves q (z + (length code + 100)) save_at hs (savings_after save_at hs k q saved)
 saves-with_individual q z a gs hs code k saved c f s = elim (eqb_tells (genotype_at hs k).total a) [
   | inl e ↦ subst (λ b. Saves q (z + (length code + 100)) a hs (if b then saved ++ new ∷ [] else saved)) (sym e.0) (more e.1)

@@ -51,7 +51,8 @@ in_scene w =
     go false cells p v e h = CellsAgree-push w cells p v e h
 
 pub run-in_scene : (w : World) (s : Settings) (q k : ℕ) → InScene w (run scene_machine s q k (run_start (scene_of w)))
-run-in_scene w s q k = each-run scene_machine s (λ x y. InScene w x → InScene w y) (in_scene w) q k (run_start (scene_of w)) (record { start = refl; cells = tt })
+run-in_scene w s q k = each-run scene_machine s (λ x y. InScene w x → InScene w y) (in_scene w) q k (run_start (scene_of w))
+    (record { start = refl; cells = tt })
 
 -- ---- the law
 

@@ -68,15 +68,18 @@ cells-kept x e start now after hv hx hw m =
       sized = ap length hv ∙ m.sized ∙ sym (ap length hx);
     }
 
-cells-written : (x : SceneRun) (at value : ℕ) (start now after : List ℕ) → after ≡ slice_set now at value → (with_event x (event.Write at value)).now.soup ≡ slice_set x.now.soup at value
+cells-written : (x : SceneRun) (at value : ℕ) (start now after : List ℕ) → after ≡ slice_set now at value
+    → (with_event x (event.Write at value)).now.soup ≡ slice_set x.now.soup at value
     → ShowsCells x start now → ShowsCells (with_event x (event.Write at value)) start after
 cells-written x at value start now after hv hx m =
     let e : Event = event.Write at value in
     let before : (p : ℕ) (b : Bool) → writes p e ≡ false → is_known (with_event x e) p ≡ b → is_known x p ≡ b = λ p b w k. sym (known-event x e p w) ∙ k in
-    let other : (soup : List ℕ) (p : ℕ) → (at ≡ p → ⊥) → slice_index (slice_set soup at value) p ≡ slice_index soup p = λ soup p n. get_or-set_other soup at p value 0 (λ b. n (sym b)) in
+    let other : (soup : List ℕ) (p : ℕ) → (at ≡ p → ⊥) → slice_index (slice_set soup at value) p ≡ slice_index soup p =
+    λ soup p n. get_or-set_other soup at p value 0 (λ b. n (sym b)) in
     record {
       known = λ p k. ap (at_cell p) hv ∙ elim (eqb_tells at p) [
-        | inl a ↦ subst (λ q. slice_index (slice_set now at value) q ≡ slice_index (slice_set x.now.soup at value) q) a.1 (set-same now x.now.soup at value m.sized)
+        | inl a ↦ subst (λ q. slice_index (slice_set now at value) q ≡ slice_index (slice_set x.now.soup at value) q) a.1
+            (set-same now x.now.soup at value m.sized)
         | inr a ↦ other now p a.1 ∙ m.known p (before p true a.0 k) ∙ sym (other x.now.soup p a.1)
       ] ∙ sym (ap (at_cell p) hx);
       unknown = λ p k. ap (at_cell p) hv ∙ elim (eqb_tells at p) [

@@ -92,5 +92,6 @@ free-event k s v (event.Reap place) l t c f r a = λ q h.
     (a q h ∙ is_owned-owners v.living q) (t.apart q) (omega (arith, owners-reap v id q t (reaped-is_here v place t c.0), own, d))
     ∙ sym (is_owned-owners (with_death id v).living q)
 free-event k s v (event.Divide ran moved) l t c f r a =
-    subst (λ (fr : List Block). FreeAlike s.settings.soup_size fr (apply_event v (event.Divide ran moved))) (sym (with_newborn-keeps (k + 1) s.front.daughter s).2)
+    subst (λ (fr : List Block). FreeAlike s.settings.soup_size fr (apply_event v (event.Divide ran moved)))
+    (sym (with_newborn-keeps (k + 1) s.front.daughter s).2)
     (same-owners s.settings.soup_size s.free v (apply_event v (event.Divide ran moved)) (λ p. owners-divide ran moved v p l t) a)

@@ -19,7 +19,8 @@ use Rattle.tierra_model.proofs.Shares.{Shares}
 use Rattle.tierra_model.proofs.Living.{is_here, find-append, find-without, find-last}
 use Rattle.tierra_model.proofs.Owners.{is_here-times}
 use Rattle.tierra_model.proofs.Commutes.{HasFront, front-id, has_front-put, put_after, record_after-id, error_move-cong, good_move-cong}
-use Rattle.tierra_model.proofs.Yards.{renamed, renamed-new, stands_as, map-cong, with_standing-map, stands-fits, map-error_move, map-good_move, without_place-map, without_place-filter, map-filter-cong, map-cong-in, is_standing_of-renamed}
+use Rattle.tierra_model.proofs.Yards.{renamed, renamed-new, stands_as, map-cong, with_standing-map, stands-fits, map-error_move, map-good_move}
+use Rattle.tierra_model.proofs.Yards.{without_place-map, without_place-filter, map-filter-cong, map-cong-in, is_standing_of-renamed}
 use Rattle.tierra_model.proofs.EachOnce.{EachOnce, front-with_birth}
 use Rattle.tierra_model.proofs.EventEffects.{shares-event}
 
@@ -107,6 +108,7 @@ yard-event n k s v (event.Divide ran moved) l t c f same old small next y =
     let u : World = with_birth (genotypes_at_birth (front v) ran moved v.genotypes) (front v).daughter (front v).genotype v in
     let b = front-with_birth (genotypes_at_birth (front v) ran moved v.genotypes) (front v).daughter (front v).genotype v l in
     ap (λ (d : Option Block). with_standing (record_after e s.front) (with_newborn (k + 1) d s).yard) f.daughter
-    ∙ yard-put_after n e s.front (with_newborn (k + 1) (front v).daughter s).yard u b.2 (subst (λ d. Shares d s.front) (sym b.1) f) (same ∙ sym b.0) old (omega arith)
+    ∙ yard-put_after n e s.front (with_newborn (k + 1) (front v).daughter s).yard u b.2 (subst (λ d. Shares d s.front) (sym b.1) f)
+    (same ∙ sym b.0) old (omega arith)
     (yard-with_newborn n k s v (front v).daughter (front v).genotype (genotypes_at_birth (front v) ran moved v.genotypes) t next y)
     ∙ ap (λ (c : Creature). map (stands_as n (with_record (record_after e c) u.living)) u.reaper) b.1

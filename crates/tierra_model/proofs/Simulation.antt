@@ -12,7 +12,8 @@ use Rattle.tierra_model.specs.declared.events.Act.TheVariants as act
 use Rattle.tierra_model.specs.Look.{Look, Answer, LookAt}
 use Rattle.tierra_model.specs.Draw.{word, back_flip}
 use Rattle.tierra_model.specs.Queue.{number_of_others}
-use Rattle.tierra_model.specs.Quantum.{Machine, walk, give_up, take_block, victim, reap_at, reap, make_room, mal, perform, settle, instruction, instructions, flip, reap_times, disturb, is_disturbed, run}
+use Rattle.tierra_model.specs.Quantum.{Machine, walk, give_up, take_block, victim, reap_at, reap, make_room, mal, perform, settle, instruction, instructions}
+use Rattle.tierra_model.specs.Quantum.{flip, reap_times, disturb, is_disturbed, run}
 use Rattle.tierra_model.specs.Step.{step, Outcome, flip_bit}
 use Rattle.tierra_model.specs.Room.{room_for}
 use Rattle.tierra_model.specs.Events.{record_after}
@@ -20,7 +21,8 @@ use Rattle.tierra_model.proofs.Shares.{Shares}
 use Rattle.tierra_model.proofs.Free.{AlikeBelow, room_for-alike}
 use Rattle.tierra_model.proofs.Records.{flipped_below, Keeps, CanDo, Always, step_keeps}
 use Rattle.tierra_model.proofs.AnyMachine.{room-some, room-none_zero, room-none_suc, FlipOf, back_flip_of}
-use Rattle.tierra_model.proofs.Operations.{EachOperation, each-reap, each-make_room, each-mal, each-perform, each-walk, each-instructions, each-reap_times, each-disturb}
+use Rattle.tierra_model.proofs.Operations.{EachOperation, each-reap, each-make_room, each-mal, each-perform, each-walk, each-instructions, each-reap_times}
+use Rattle.tierra_model.proofs.Operations.{each-disturb}
 
 -- an operation makes nothing true that was not
 abbrev pub Back : {S : Type 0} → (S → Type 0) → S → S → Type 0
@@ -39,7 +41,8 @@ IsDone P s Free Yard x (event.Divide ran moved) = IsSome (P.front x).daughter ×
 
 -- The machines agree at each operation, where F says that a state of the first stands for one of the second, and A and B
 -- that what each has noted agrees with the other.
-pub record Simulates {S T : Type 0} (P : Machine S) (Q : Machine T) (s : Settings) (F : S → T → Type 0) (A : S → Type 0) (B : T → Type 0) (Free Yard : Type 0) : Type 0 where
+pub record Simulates {S T : Type 0} (P : Machine S) (Q : Machine T) (s : Settings) (F : S → T → Type 0) (A : S → Type 0) (B : T → Type 0)
+    (Free Yard : Type 0) : Type 0 where
   pub first : EachOperation P (Back A)
   pub second : EachOperation Q (Back B)
   -- the record of the first machine
@@ -161,7 +164,8 @@ module _ {S T : Type 0} (P : Machine S) (Q : Machine T) (s : Settings) (F : S �
           let h : Yard = m.yard x y q.2 (asked P s A m.first size n x e a) (asked Q s B m.second size k y (same-room_for size x y q ∙ e) b) in
           subst (λ j. B (make_room Q s size j y) → SameRoom size n j x y) (same h) (more h e) b
 
-  same-make_room : (size n k : ℕ) (x : S) (y : T) → Asks size x y → (Yard → n ≡ k) → A (make_room P s size n x) → B (make_room Q s size k y) → SameRoom size n k x y
+  same-make_room : (size n k : ℕ) (x : S) (y : T) → Asks size x y → (Yard → n ≡ k) → A (make_room P s size n x) → B (make_room Q s size k y)
+      → SameRoom size n k x y
   same-make_room size zero k x y q same a b = counted-room size zero k x y q same a b (λ h e c. nobody-room size x y q e)
   same-make_room size (suc n) k x y q same a b =
       counted-room size (suc n) k x y q same a b (λ h e c. reaping-room size n x y q h e a c (λ u v r d g. same-make_room size n n u v r (λ _. refl) d g))
@@ -196,13 +200,15 @@ module _ {S T : Type 0} (P : Machine S) (Q : Machine T) (s : Settings) (F : S �
 
   -- ---- instructions
 
-  same-perform : (act : Act) (x : S) (y : T) → CanDo s (P.front x) act → F x y → A (perform P s act x) → B (perform Q s act y) → F (perform P s act x) (perform Q s act y)
+  same-perform : (act : Act) (x : S) (y : T) → CanDo s (P.front x) act → F x y → A (perform P s act x) → B (perform Q s act y)
+      → F (perform P s act x) (perform Q s act y)
   same-perform act.Plain x y c f a b = f
   same-perform (act.Wrote at value) x y c f a b = m.apply (event.Write at value) x y f c
   same-perform act.Erred x y c f a b = m.apply event.Err x y f tt
   same-perform (act.Mal size) x y c f a b = same-mal size x y c.0 c.1 f a b
   same-perform act.Divide x y c f a b =
-      subst (λ (d : Creature). F (P.apply (P.apply x event.Good) (event.Divide (P.front x).ran (P.front x).moved)) (Q.apply (Q.apply y event.Good) (event.Divide d.ran d.moved)))
+      subst (λ (d : Creature). F (P.apply (P.apply x event.Good) (event.Divide (P.front x).ran (P.front x).moved))
+      (Q.apply (Q.apply y event.Good) (event.Divide d.ran d.moved)))
       (sym (m.front x y f))
       (m.apply (event.Divide (P.front x).ran (P.front x).moved) (P.apply x event.Good) (Q.apply y event.Good) (m.apply event.Good x y f tt)
       (subst (λ (d : Creature). IsSome d.daughter) (sym (m.front_apply event.Good x)) c.0, c.1))
@@ -239,11 +245,13 @@ module _ {S T : Type 0} (P : Machine S) (Q : Machine T) (s : Settings) (F : S �
       let u : S = instruction P s draw i x in
       let v : T = instruction Q s draw i y in
       same-instructions draw k (i + 1) u v
-      (same-instruction draw i x y f (each-instructions P s (Back A) m.first draw k (i + 1) u a) (each-instructions Q s (Back B) m.second draw k (i + 1) v b)) a b
+      (same-instruction draw i x y f (each-instructions P s (Back A) m.first draw k (i + 1) u a) (each-instructions Q s (Back B) m.second draw k (i + 1) v b))
+      a b
 
   -- ---- a quantum
 
-  same-flip : (bit : Option (ℕ × ℕ)) (x : S) (y : T) → FlipOf s.soup_size bit → F x y → A (flip P s bit x) → B (flip Q s bit y) → F (flip P s bit x) (flip Q s bit y)
+  same-flip : (bit : Option (ℕ × ℕ)) (x : S) (y : T) → FlipOf s.soup_size bit → F x y → A (flip P s bit x) → B (flip Q s bit y)
+      → F (flip P s bit x) (flip Q s bit y)
   same-flip None x y h f a b = f
   same-flip (Some c) x y h f a b =
       let e : ℕ → Event = λ v. event.Write c.0 (flip_bit v (Some c.1)) in
@@ -259,7 +267,8 @@ module _ {S T : Type 0} (P : Machine S) (Q : Machine T) (s : Settings) (F : S �
       (go (victim P s x) refl (λ u v g. same-reap_times k u v g h))
     where
       go : (o : Option ℕ) → victim P s x ≡ o → ((u : S) (v : T) → F u v → F (reap_times P s k u) (reap_times Q s k v))
-          → F (elim o [ None ↦ x | Some p ↦ reap_times P s k (P.apply x (event.Reap p)) ]) (elim o [ None ↦ y | Some p ↦ reap_times Q s k (Q.apply y (event.Reap p)) ])
+          → F (elim o [ None ↦ x | Some p ↦ reap_times P s k (P.apply x (event.Reap p)) ])
+          (elim o [ None ↦ y | Some p ↦ reap_times Q s k (Q.apply y (event.Reap p)) ])
       go None e ih = f
       go (Some p) e ih = ih (P.apply x (event.Reap p)) (Q.apply y (event.Reap p)) (m.apply (event.Reap p) x y f (h, e))
 
@@ -270,8 +279,10 @@ module _ {S T : Type 0} (P : Machine S) (Q : Machine T) (s : Settings) (F : S �
       let v : T = Q.ask_reaper y in
       let g : F u v = m.ask_reaper x y f in
       let n : ℕ → ℕ = λ l. l * s.dist_percent / 100 in
-      let h : Yard = m.yard x y f (each-reap_times P s (Back A) m.first (n (length (P.reaper u))) u a) (each-reap_times Q s (Back B) m.second (n (length (Q.reaper v))) v b) in
-      subst (λ l. F (reap_times P s (n (length (P.reaper u))) u) (reap_times Q s (n l) v)) (m.number u v g h) (same-reap_times (n (length (P.reaper u))) u v g h)
+      let h : Yard = m.yard x y f (each-reap_times P s (Back A) m.first (n (length (P.reaper u))) u a)
+      (each-reap_times Q s (Back B) m.second (n (length (Q.reaper v))) v b) in
+      subst (λ l. F (reap_times P s (n (length (P.reaper u))) u) (reap_times Q s (n l) v)) (m.number u v g h)
+      (same-reap_times (n (length (P.reaper u))) u v g h)
 
   pub same-run : (q k : ℕ) (x : S) (y : T) → F x y → A (run P s q k x) → B (run Q s q k y) → F (run P s q k x) (run Q s q k y)
   unfolding run

@@ -187,14 +187,16 @@ rotation-times : (ids : List ℕ) (id : ℕ) → times_in (rotation ids) id ≡ 
 rotation-times [] id = refl
 rotation-times (x ∷ xs) id = omega (arith, times_in-append xs (x ∷ []) id)
 
-pub sizes_below : (gs : List Genotype) (saved : List Saving) (q z p : ℕ) → ((p : ℕ) → p ≢ q → saved_size gs saved p < 2 ^ 30) → saved_size gs saved q ≤ z → z < 2 ^ 30
+pub sizes_below : (gs : List Genotype) (saved : List Saving) (q z p : ℕ) → ((p : ℕ) → p ≢ q → saved_size gs saved p < 2 ^ 30) → saved_size gs saved q ≤ z
+    → z < 2 ^ 30
     → saved_size gs saved p < 2 ^ 30
 sizes_below gs saved q z p h k l = elim (eqb_tells p q) [
   | inl e ↦ subst (λ j. saved_size gs saved j < 2 ^ 30) (sym e.1) (omega arith)
   | inr e ↦ h p e.1
 ]
 
-sound-turn_end_in : (e m b z q : ℕ) (w : World) → WithinQuantum w.settings e m b z q w → e ≤ count_limit q → m ≤ count_limit q → b ≤ count_limit q → z < 2 ^ 30 → q ≤ MOST_QUANTA → IsSound (turn_end w)
+sound-turn_end_in : (e m b z q : ℕ) (w : World) → WithinQuantum w.settings e m b z q w → e ≤ count_limit q → m ≤ count_limit q → b ≤ count_limit q → z < 2 ^ 30
+    → q ≤ MOST_QUANTA → IsSound (turn_end w)
 sound-turn_end_in e m b z q w d he hm hb hz hq =
     let c = d.population in
     let n : ℕ = w.settings.soup_size in
@@ -231,7 +233,8 @@ sound-turn_end_in e m b z q w d he hm hb hz hq =
       sizes = λ p. sizes_below w.genotypes w.saved q z p d.saves.sizes d.saves.size hz;
     }
 
-pub sound-turn_end : (s : Settings) (e m b z q : ℕ) (w : World) → WithinQuantum s e m b z q w → e ≤ count_limit q → m ≤ count_limit q → b ≤ count_limit q → z < 2 ^ 30 → q ≤ MOST_QUANTA → IsSound (turn_end w)
+pub sound-turn_end : (s : Settings) (e m b z q : ℕ) (w : World) → WithinQuantum s e m b z q w → e ≤ count_limit q → m ≤ count_limit q → b ≤ count_limit q
+    → z < 2 ^ 30 → q ≤ MOST_QUANTA → IsSound (turn_end w)
 sound-turn_end s e m b z q w d he hm hb hz hq = sound-turn_end_in e m b z q w (subst (λ t. WithinQuantum t e m b z q w) (sym d.settings) d) he hm hb hz hq
 
 -- ---- a quantum
@@ -245,7 +248,8 @@ slice_few size s = go s.slice_by_size
 
 -- the bounds at the end of a quantum
 within-quantum : (w : World) (k : ℕ) → IsSound w
-    → WithinQuantum w.settings (count_limit w.quanta + k) (count_limit w.quanta + k) (count_limit w.quanta + k) (0 + 20100 * k) (w.quanta + 1) (run world_machine w.settings (w.quanta + 1) k w)
+    → WithinQuantum w.settings (count_limit w.quanta + k) (count_limit w.quanta + k) (count_limit w.quanta + k) (0 + 20100 * k) (w.quanta + 1)
+    (run world_machine w.settings (w.quanta + 1) k w)
 within-quantum w k s =
     let l : ℕ = count_limit w.quanta in
     within-run w.settings l l l 0 (w.quanta + 1) k w (within-start w s)

@@ -1,5 +1,6 @@
 -- The world at the start is sound, and so is every world of a serial run.
-use Rattle.std.proofs.Common.{◌≡◌, ℕ, zero, suc, ◌+◌, ◌*◌, ◌^◌, ◌<◌, ◌≤◌, false, List, [], ◌∷◌, ◌++◌, refl, sym, ◌∙◌, ap, subst, arith, length, take, drop, length-append}
+use Rattle.std.proofs.Common.{◌≡◌, ℕ, zero, suc, ◌+◌, ◌*◌, ◌^◌, ◌<◌, ◌≤◌, false, List, [], ◌∷◌, ◌++◌, refl, sym, ◌∙◌, ap, subst, arith, length, take, drop}
+use Rattle.std.proofs.Common.{length-append}
 use Rattle.std.specs.Prelude.{None, All, ◌==◌, nat_le}
 use Rattle.std.proofs.lemmas.List.{length-take, length-drop, length-replicate}
 use Rattle.std.proofs.lemmas.Bool.Decides.{nat_tests}
@@ -55,11 +56,19 @@ record Inoculating (s : Settings) (k z : ℕ) (cs : List Inoculum) (w : World) :
 
 length-overwrite : (xs : List ℕ) (at : ℕ) (ys : List ℕ) → at + length ys ≤ length xs → length (overwrite xs at ys) ≡ length xs
 length-overwrite xs at ys h =
-    omega (arith, length-append (take at xs ++ ys) (drop (at + length ys) xs), length-append (take at xs) ys, length-take at xs, length-drop (at + length ys) xs)
+    omega (
+      arith,
+      length-append (take at xs ++ ys) (drop (at + length ys) xs),
+      length-append (take at xs) ys,
+      length-take at xs,
+      length-drop (at + length ys)
+          xs,
+    )
 
 inoculating-one : (s : Settings) (k z : ℕ) (c : Inoculum) (cs : List Inoculum) (w : World) → IsCode c.code → c.at + length c.code ≤ s.soup_size
     → Inoculating s k z (c ∷ cs) w
-    → Inoculating s (k + 1) (z + (length c.code + 100)) cs (with_creature w.genotypes (block_of c) c.code None 0 (record w { soup = overwrite w.soup c.at c.code }))
+    → Inoculating s (k + 1) (z + (length c.code + 100)) cs
+    (with_creature w.genotypes (block_of c) c.code None 0 (record w { soup = overwrite w.soup c.at c.code }))
 inoculating-one s k z c cs w code lies d =
     let b : Block = block_of c in
     let n : ℕ = s.soup_size in
@@ -129,7 +138,8 @@ inoculating-all s k z [] w h l d = inoculating-at s k z (k + 0) (z + 0) [] w (om
 inoculating-all s k z (c ∷ cs) w h l d =
     let v : World = with_creature w.genotypes (block_of c) c.code None 0 (record w { soup = overwrite w.soup c.at c.code }) in
     let one = inoculating-one s k z c cs w (All-head IsWritten c cs h) (All-head (Lies s.soup_size) c cs l) d in
-    inoculating-at s (k + 1 + length cs) (z + (length c.code + 100) + sum_of weight cs) (k + suc (length cs)) (z + (length c.code + 100 + sum_of weight cs)) [] (with_inocula cs v)
+    inoculating-at s (k + 1 + length cs) (z + (length c.code + 100) + sum_of weight cs) (k + suc (length cs))
+    (z + (length c.code + 100 + sum_of weight cs)) [] (with_inocula cs v)
     (omega arith) (omega arith)
     (inoculating-all s (k + 1) (z + (length c.code + 100)) cs v (All-tail IsWritten c cs h) (All-tail (Lies s.soup_size) c cs l) one)
 
@@ -222,7 +232,8 @@ start-sound setup h =
     let w : World = with_inocula cs (empty_world s) in
     let fit = sizes_fit s.soup_size cs h.apart h.placed in
     let few = weight_few cs h.written in
-    let d : Inoculating s (0 + length cs) (0 + sum_of weight cs) [] w = inoculating-all s 0 0 cs (empty_world s) h.written h.placed (inoculating-none s cs h.apart) in
+    let d : Inoculating s (0 + length cs) (0 + sum_of weight cs) [] w =
+    inoculating-all s 0 0 cs (empty_world s) h.written h.placed (inoculating-none s cs h.apart) in
     inoculated-sound (0 + length cs) (0 + sum_of weight cs) w (omega (arith, h.some)) (omega (arith, s.soup, few.1)) (omega (arith, s.soup, few.0))
     (subst (λ t. Inoculating t (0 + length cs) (0 + sum_of weight cs) [] w) (sym d.settings) d)
 

@@ -2,7 +2,9 @@
 use Rattle.std.proofs.Common.{ℕ, ◌+◌, ◌%◌, ◌<◌, ◌≤◌, Bool, true, false, arith}
 use Rattle.std.specs.Prelude.{Some, None, Option, ℤ, if◌then◌else◌, ◌||◌, nat_lt, length}
 use Rattle.tierra_model.specs.declared.ops.Op.{Op}
-use Rattle.tierra_model.specs.declared.ops.Op.TheVariants.{Nop0, Nop1, Or1, Shl, Zero, IfCz, SubAb, SubAc, IncA, IncB, DecC, IncC, PushAx, PushBx, PushCx, PushDx, PopAx, PopBx, PopCx, PopDx, Jmp, JmpB, Call, Ret, MovCd, MovAb, MovIab, Adr, AdrB, AdrF, Mal, Divide}
+use Rattle.tierra_model.specs.declared.ops.Op.TheVariants.{Nop0, Nop1, Or1, Shl, Zero, IfCz, SubAb, SubAc, IncA, IncB, DecC, IncC, PushAx, PushBx, PushCx}
+use Rattle.tierra_model.specs.declared.ops.Op.TheVariants.{PushDx, PopAx, PopBx, PopCx, PopDx, Jmp, JmpB, Call, Ret, MovCd, MovAb, MovIab, Adr, AdrB, AdrF, Mal}
+use Rattle.tierra_model.specs.declared.ops.Op.TheVariants.{Divide}
 use Rattle.tierra_model.specs.declared.parameters.Settings.{Settings}
 use Rattle.tierra_model.specs.declared.creatures.Creature.{Creature}
 use Rattle.tierra_model.specs.declared.searching.Found.{Found}
@@ -32,7 +34,8 @@ FoundBelow n found.Short = Unit {0}
 FoundBelow n found.NoMatch = Unit {0}
 FoundBelow n (found.At p) = p < n
 
-always-bind : {A B : Type 0} (P : A → Type 0) (Q : B → Type 0) (t : Look A) (f : A → Look B) → Always P t → ((a : A) → P a → Always Q (f a)) → Always Q (t >>= f)
+always-bind : {A B : Type 0} (P : A → Type 0) (Q : B → Type 0) (t : Look A) (f : A → Look B) → Always P t → ((a : A) → P a → Always Q (f a))
+    → Always Q (t >>= f)
 always-bind P Q (Answer a) f h k = k a h
 always-bind P Q (LookAt p next) f h k = λ v below. always-bind P Q (next v) f (h v below) k
 
@@ -69,7 +72,8 @@ copied : (b : Bool) (k m : ℕ) → k ≤ m → (if b then k + 1 else k) ≤ m +
 copied true k m h = omega arith
 copied false k m h = omega arith
 
-copy_steps : (n m : ℕ) (c : Creature) (from to : ℕ) (bit : Option ℕ) → (c.ip < n) × (c.sp < 10) × (c.moved ≤ m) → c.ran ≤ m + 1 → Always (Steps n (m + 1)) (copy c from to bit)
+copy_steps : (n m : ℕ) (c : Creature) (from to : ℕ) (bit : Option ℕ) → (c.ip < n) × (c.sp < 10) × (c.moved ≤ m) → c.ran ≤ m + 1
+    → Always (Steps n (m + 1)) (copy c from to bit)
 copy_steps n m c from to bit h r =
     if_always (Steps n (m + 1)) (is_in c.own to || is_in_daughter c.daughter to) _ _
     (λ v below. (h.0, h.1, copied (is_in_daughter c.daughter to) c.moved m h.2, r)) (h.0, h.1, omega (arith, h.2), r)
@@ -97,21 +101,28 @@ execute_steps s f bit ip m c PopAx h k = (h.0, omega arith, k.0, k.1)
 execute_steps s f bit ip m c PopBx h k = (h.0, omega arith, k.0, k.1)
 execute_steps s f bit ip m c PopCx h k = (h.0, omega arith, k.0, k.1)
 execute_steps s f bit ip m c PopDx h k = (h.0, omega arith, k.0, k.1)
-execute_steps s f bit ip m c Jmp h k = searched s.soup_size (m + 1) ip Outward s.search_limit s.min_template c _ (omega (arith, s.soup)) (λ p b. (b, h.1, k.0, k.1)) (h.0, h.1, k.0, k.1)
-execute_steps s f bit ip m c JmpB h k = searched s.soup_size (m + 1) ip Backward s.search_limit s.min_template c _ (omega (arith, s.soup)) (λ p b. (b, h.1, k.0, k.1)) (h.0, h.1, k.0, k.1)
-execute_steps s f bit ip m c Call h k = searched s.soup_size (m + 1) ip Outward s.search_limit s.min_template c _ (omega (arith, s.soup)) (λ p b. (b, omega arith, k.0, k.1)) (h.0, h.1, k.0, k.1)
+execute_steps s f bit ip m c Jmp h k = searched s.soup_size (m + 1) ip Outward s.search_limit s.min_template c _ (omega (arith, s.soup))
+    (λ p b. (b, h.1, k.0, k.1)) (h.0, h.1, k.0, k.1)
+execute_steps s f bit ip m c JmpB h k = searched s.soup_size (m + 1) ip Backward s.search_limit s.min_template c _ (omega (arith, s.soup))
+    (λ p b. (b, h.1, k.0, k.1)) (h.0, h.1, k.0, k.1)
+execute_steps s f bit ip m c Call h k = searched s.soup_size (m + 1) ip Outward s.search_limit s.min_template c _ (omega (arith, s.soup))
+    (λ p b. (b, omega arith, k.0, k.1)) (h.0, h.1, k.0, k.1)
 execute_steps s f bit ip m c Ret h k = (address_below _ s.soup_size (omega (arith, s.soup)), omega arith, k.0, k.1)
 execute_steps s f bit ip m c MovCd h k = (h.0, h.1, k.0, k.1)
 execute_steps s f bit ip m c MovAb h k = (h.0, h.1, k.0, k.1)
 execute_steps s f bit ip m c MovIab h k = copy_steps s.soup_size m c (address c.bx s.soup_size) (address c.ax s.soup_size) bit h k.1
-execute_steps s f bit ip m c Adr h k = searched s.soup_size (m + 1) ip Outward s.search_limit s.min_template c _ (omega (arith, s.soup)) (λ p b. (h.0, h.1, k.0, k.1)) (h.0, h.1, k.0, k.1)
-execute_steps s f bit ip m c AdrB h k = searched s.soup_size (m + 1) ip Backward s.search_limit s.min_template c _ (omega (arith, s.soup)) (λ p b. (h.0, h.1, k.0, k.1)) (h.0, h.1, k.0, k.1)
-execute_steps s f bit ip m c AdrF h k = searched s.soup_size (m + 1) ip Forward s.search_limit s.min_template c _ (omega (arith, s.soup)) (λ p b. (h.0, h.1, k.0, k.1)) (h.0, h.1, k.0, k.1)
+execute_steps s f bit ip m c Adr h k = searched s.soup_size (m + 1) ip Outward s.search_limit s.min_template c _ (omega (arith, s.soup))
+    (λ p b. (h.0, h.1, k.0, k.1)) (h.0, h.1, k.0, k.1)
+execute_steps s f bit ip m c AdrB h k = searched s.soup_size (m + 1) ip Backward s.search_limit s.min_template c _ (omega (arith, s.soup))
+    (λ p b. (h.0, h.1, k.0, k.1)) (h.0, h.1, k.0, k.1)
+execute_steps s f bit ip m c AdrF h k = searched s.soup_size (m + 1) ip Forward s.search_limit s.min_template c _ (omega (arith, s.soup))
+    (λ p b. (h.0, h.1, k.0, k.1)) (h.0, h.1, k.0, k.1)
 execute_steps s f bit ip m c Mal h k = (h.0, h.1, k.0, k.1)
 execute_steps s f bit ip m c Divide h k = (h.0, h.1, k.0, k.1)
 
 pub step_steps : (s : Settings) (draw : ℕ → ℕ) (i m : ℕ) (c : Creature) → InSoup s.soup_size m c → Always (Steps s.soup_size (m + 1)) (step s draw i c)
 unfolding step
 step_steps s draw i m c h = λ v below.
-    execute_steps s (flaw s.flaw_rate draw i) (copy_bit s.copy_rate draw i) c.ip m (record c { ip = (c.ip + 1) % s.soup_size; flag = 0; ran = c.ran + 1 }) (op_of v)
+    execute_steps s (flaw s.flaw_rate draw i) (copy_bit s.copy_rate draw i) c.ip m (record c { ip = (c.ip + 1) % s.soup_size; flag = 0; ran = c.ran + 1 })
+    (op_of v)
     (omega (arith, s.soup), h.1, h.2) (omega (arith, h.2), omega (arith, h.3))

@@ -62,7 +62,8 @@ each_size : (n : ℕ) (cs : List Inoculum) → All (Lies n) cs
 each_size n [] h = omega arith
 each_size n (c ∷ cs) h =
     let lies : c.at + length c.code ≤ n = All-head (Lies n) c cs h in
-    let one = sum_from-least (λ p. one_if (is_in (block_of c) p)) 0 n c.at (length c.code) (λ q l m. in_block c.at (length c.code) q l m) (omega arith) (omega arith) in
+    let one = sum_from-least (λ p. one_if (is_in (block_of c) p)) 0 n c.at (length c.code) (λ q l m. in_block c.at (length c.code) q l m) (omega arith)
+    (omega arith) in
     omega (arith, one, each_size n cs (All-tail (Lies n) c cs h))
 
 pub sizes_fit : (n : ℕ) (cs : List Inoculum) → ((p : ℕ) → sum_of (λ c. one_if (is_in (block_of c) p)) cs ≤ 1) → All (Lies n) cs

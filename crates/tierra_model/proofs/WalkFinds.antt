@@ -16,7 +16,8 @@ read_template-answer n cells zero p = refl
 read_template-answer n cells (suc k) p = go (nat_lt (cells (p % n)) 2) (read_template-answer n cells k (p + 1))
   where
     go : (b : Bool) → answer (read_template n k (p + 1)) cells ≡ template n cells k (p + 1)
-        → answer (if b then read_template n k (p + 1) >>= (λ vs. Answer (cells (p % n) ∷ vs)) else Answer []) cells ≡ (if b then cells (p % n) ∷ template n cells k (p + 1) else [])
+        → answer (if b then read_template n k (p + 1) >>= (λ vs. Answer (cells (p % n) ∷ vs))
+        else Answer []) cells ≡ (if b then cells (p % n) ∷ template n cells k (p + 1) else [])
     go true e = answer-bind (read_template n k (p + 1)) (λ vs. Answer (cells (p % n) ∷ vs)) cells ∙ ap (λ (l : List ℕ). cells (p % n) ∷ l) e
     go false e = refl
 
@@ -44,7 +45,8 @@ try_each-answer n cells vs (p ∷ ps) =
     go false e = e
 
 -- the answer of a search is what there is to find
-pub search-answer : (n : ℕ) (cells : ℕ → ℕ) (ip : ℕ) (way : Way) (limit min : ℕ) → answer (search_for n ip way limit min) cells ≡ found_by n cells ip way limit min
+pub search-answer : (n : ℕ) (cells : ℕ → ℕ) (ip : ℕ) (way : Way) (limit min : ℕ)
+    → answer (search_for n ip way limit min) cells ≡ found_by n cells ip way limit min
 unfolding search_for search_from found_by
 search-answer n cells ip way limit min =
     answer-bind (read_template n 10 (ip + 1)) (search_from n ip way limit min) cells
@@ -55,7 +57,8 @@ search-answer n cells ip way limit min =
         ≡ (if nat_lt (length vs) min then found.Short else found_at n (length vs) (find (is_complement n cells vs) (candidates n ip (length vs) way limit 1)))
     go vs = short (nat_lt (length vs) min)
       where
-        short : (b : Bool) → answer (if b then Answer found.Short else (try_each n vs (candidates n ip (length vs) way limit 1) >>= (λ p. Answer (found_at n (length vs) p)))) cells
+        short : (b : Bool) → answer (if b then Answer found.Short
+            else (try_each n vs (candidates n ip (length vs) way limit 1) >>= (λ p. Answer (found_at n (length vs) p)))) cells
             ≡ (if b then found.Short else found_at n (length vs) (find (is_complement n cells vs) (candidates n ip (length vs) way limit 1)))
         short true = refl
         short false = answer-bind (try_each n vs (candidates n ip (length vs) way limit 1)) (λ p. Answer (found_at n (length vs) p)) cells

@@ -78,10 +78,13 @@ pub record Adds (v : Event) (e b z e' b' z' : ℕ) : Type 0 where
   pub size : z + 20100 * births_of v ≤ z'
 
 -- the daughter block becomes a creature
-within-divide : (s : Settings) (e m b z q e' b' z' ran moved : ℕ) (w : World) (o : Option Block) → WithinQuantum s e m b z q w → IfSome o (IsBlock s.soup_size) → IsSome o
+within-divide : (s : Settings) (e m b z q e' b' z' ran moved : ℕ) (w : World) (o : Option Block) → WithinQuantum s e m b z q w → IfSome o (IsBlock s.soup_size)
+    → IsSome o
     → 1 ≤ ran → b + 1 ≤ b' → z + 20100 ≤ z'
-    → Population s.soup_size e' m b' (put (record_after (event.Divide ran moved) (front w)) (with_birth (genotypes_at_birth (front w) ran moved w.genotypes) o (front w).genotype w))
-    → WithinQuantum s e' m b' z' q (put (record_after (event.Divide ran moved) (front w)) (with_birth (genotypes_at_birth (front w) ran moved w.genotypes) o (front w).genotype w))
+    → Population s.soup_size e' m b' (put (record_after (event.Divide ran moved) (front w))
+    (with_birth (genotypes_at_birth (front w) ran moved w.genotypes) o (front w).genotype w))
+    → WithinQuantum s e' m b' z' q (put (record_after (event.Divide ran moved) (front w))
+    (with_birth (genotypes_at_birth (front w) ran moved w.genotypes) o (front w).genotype w))
 within-divide s e m b z q e' b' z' ran moved w None d k h r1 b1 z1 c = (let f : false ≡ true = h in cc)
 within-divide s e m b z q e' b' z' ran moved w (Some x) d k h r1 b1 z1 c =
     let mother : Creature = front w in
@@ -108,7 +111,8 @@ within-divide s e m b z q e' b' z' ran moved w (Some x) d k h r1 b1 z1 c =
       number = d.number;
       codes = d.codes;
       genotype = each-with (GenotypeBelow (length gs)) put_after (w.living ++ nb ∷ []) (longer (front w) mine)
-          (each-append (GenotypeBelow (length gs)) w.living (nb ∷ []) (each-map (GenotypeBelow (length w.genotypes)) (GenotypeBelow (length gs)) longer w.living d.genotype) (r.1.among, tt));
+          (each-append (GenotypeBelow (length gs)) w.living (nb ∷ [])
+          (each-map (GenotypeBelow (length w.genotypes)) (GenotypeBelow (length gs)) longer w.living d.genotype) (r.1.among, tt));
       genotype_count = omega (arith, r.1.few, d.genotype_count, long);
       listed = listed-weaker (b + 1) b' gs b1 r.0;
       saves = subst (λ (t : Settings). Saves q z' s.save_at gs (savings_after t.save_at gs j (w.quanta + 1) w.saved)) (sym d.settings)
@@ -182,16 +186,17 @@ pub within-put : (c : Creature) (s : Settings) (e m b z q : ℕ) (w : World) →
 within-put c s e m b z q w d f h =
     let g = front-in_bounds s.soup_size e m b w d.population in
     record {
-      population = population-put c s.soup_size e m b (m + 1) w d.population (has_front-put c w d.population.has_front) (each_once-put c w d.population.has_front d.population.each_once f) (omega arith) (record {
-        own = subst (IsBlock s.soup_size) (sym f.own) g.own;
-        daughter = subst (λ o. IfSome o (IsBlock s.soup_size)) (sym f.daughter) g.daughter;
-        ip = h.0;
-        sp = h.1;
-        errors = rw (f.errors) g.errors;
-        moved = h.2;
-        ran = h.3;
-        bred = rw (f.bred) g.bred;
-      });
+      population = population-put c s.soup_size e m b (m + 1) w d.population (has_front-put c w d.population.has_front)
+          (each_once-put c w d.population.has_front d.population.each_once f) (omega arith) (record {
+            own = subst (IsBlock s.soup_size) (sym f.own) g.own;
+            daughter = subst (λ o. IfSome o (IsBlock s.soup_size)) (sym f.daughter) g.daughter;
+            ip = h.0;
+            sp = h.1;
+            errors = rw (f.errors) g.errors;
+            moved = h.2;
+            ran = h.3;
+            bred = rw (f.bred) g.bred;
+          });
       settings = d.settings;
       number = d.number;
       codes = d.codes;

@@ -13,7 +13,8 @@ use Rattle.tierra_model.specs.declared.events.Act.TheVariants as act
 use Rattle.tierra_model.specs.Look.{Look, Answer, LookAt}
 use Rattle.tierra_model.specs.Draw.{word, back_flip}
 use Rattle.tierra_model.specs.Queue.{number_of_others}
-use Rattle.tierra_model.specs.Quantum.{world_machine, walk, give_up, take_block, victim, reap_at, reap, make_room, mal, perform, instruction, instructions, flip, reap_times, disturb, is_disturbed, run}
+use Rattle.tierra_model.specs.Quantum.{world_machine, walk, give_up, take_block, victim, reap_at, reap, make_room, mal, perform, instruction, instructions}
+use Rattle.tierra_model.specs.Quantum.{flip, reap_times, disturb, is_disturbed, run}
 use Rattle.tierra_model.specs.Step.{step, Outcome, flip_bit}
 use Rattle.tierra_model.specs.World.{World, front, put}
 use Rattle.tierra_model.specs.Room.{room_for}
@@ -43,7 +44,8 @@ cells_below l h p = go (nat_lt p (length l)) refl
     go false e = (let k : length l ≤ p = grind (arith, nat_tests) in rw (past l p k) (omega arith))
 
 -- an event that adds nothing
-within-plain : (v : Event) (s : Settings) (e m b z q : ℕ) (w : World) → WithinQuantum s e m b z q w → CanHappen w v → Adds v e b z e b z → WithinQuantum s e m b z q (apply_event w v)
+within-plain : (v : Event) (s : Settings) (e m b z q : ℕ) (w : World) → WithinQuantum s e m b z q w → CanHappen w v → Adds v e b z e b z
+    → WithinQuantum s e m b z q (apply_event w v)
 within-plain v s e m b z q w d c a = within-event v s e m b z q e b z w d c a
 
 adds-nothing : (v : Event) (e b z : ℕ) → errors_of v ≡ 0 → births_of v ≡ 0 → Adds v e b z e b z
@@ -62,10 +64,12 @@ abbrev OneMore : Settings → ℕ → ℕ → ℕ → ℕ → ℕ → World → 
 OneMore s e m b z q w = WithinQuantum s (e + 1) m b z q w
 
 within-err : (s : Settings) (e m b z q : ℕ) (w : World) → WithinQuantum s e m b z q w → OneMore s e m b z q (apply_event w event.Err)
-within-err s e m b z q w d = within-event event.Err s e m b z q (e + 1) b z w d tt (record { errors = omega arith; next_birth = omega arith; size = omega arith })
+within-err s e m b z q w d =
+    within-event event.Err s e m b z q (e + 1) b z w d tt (record { errors = omega arith; next_birth = omega arith; size = omega arith })
 
 within-good : (s : Settings) (e m b z q : ℕ) (w : World) → WithinQuantum s e m b z q w → OneMore s e m b z q (apply_event w event.Good)
-within-good s e m b z q w d = within-event event.Good s e m b z q (e + 1) b z w d tt (record { errors = omega arith; next_birth = omega arith; size = omega arith })
+within-good s e m b z q w d =
+    within-event event.Good s e m b z q (e + 1) b z w d tt (record { errors = omega arith; next_birth = omega arith; size = omega arith })
 
 within-take_block : (s : Settings) (e m b z q size at : ℕ) (w : World) → Asks s e m b z q size w → room_for s (world_machine.owned w) size ≡ Some at
     → OneMore s e m b z q (take_block world_machine s size at w)
@@ -103,11 +107,13 @@ within-make_room s e m b z q size (suc n) w a = go (room_for s (world_machine.ow
         → (Asks s e m b z q size (reap world_machine s w) → OneMore s e m b z q (make_room world_machine s size n (reap world_machine s w)))
         → OneMore s e m b z q (make_room world_machine s size (suc n) w)
     go (Some at) r ih = subst (OneMore s e m b z q) (sym (room-some world_machine s size (suc n) at w r)) (within-take_block s e m b z q size at w a r)
-    go None r ih = subst (OneMore s e m b z q) (sym (room-none_suc world_machine s size n w r)) (ih (asks-reap_at s e m b z q size w (victim world_machine s w) refl a))
+    go None r ih = subst (OneMore s e m b z q) (sym (room-none_suc world_machine s size n w r))
+        (ih (asks-reap_at s e m b z q size w (victim world_machine s w) refl a))
 
 -- ---- mal
 
-asks-give_up : (s : Settings) (e m b z q size : ℕ) (w : World) → 1 ≤ size → size ≤ MOST_SIZE → WithinQuantum s e m b z q w → Asks s e m b z q size (give_up world_machine s w)
+asks-give_up : (s : Settings) (e m b z q size : ℕ) (w : World) → 1 ≤ size → size ≤ MOST_SIZE → WithinQuantum s e m b z q w
+    → Asks s e m b z q size (give_up world_machine s w)
 asks-give_up s e m b z q size w one few d = go (front w).daughter refl
   where
     go : (o : Option Block) → (front w).daughter ≡ o → Asks s e m b z q size (elim o [ None ↦ w | Some x ↦ apply_event w event.GiveUp ])
@@ -122,7 +128,8 @@ asks-give_up s e m b z q size w one few d = go (front w).daughter refl
           few = few;
         }
 
-within-mal : (s : Settings) (e m b z q size : ℕ) (w : World) → 1 ≤ size → size ≤ MOST_SIZE → WithinQuantum s e m b z q w → OneMore s e m b z q (mal world_machine s size w)
+within-mal : (s : Settings) (e m b z q size : ℕ) (w : World) → 1 ≤ size → size ≤ MOST_SIZE → WithinQuantum s e m b z q w
+    → OneMore s e m b z q (mal world_machine s size w)
 within-mal s e m b z q size w one few d =
     let u : World = give_up world_machine s w in
     within-make_room s e m b z q size (number_of_others (world_machine.front u).id (world_machine.reaper u)) u (asks-give_up s e m b z q size w one few d)
@@ -132,7 +139,8 @@ within-mal s e m b z q size w one few d =
 abbrev pub AfterOne : Settings → ℕ → ℕ → ℕ → ℕ → ℕ → World → Type 0
 AfterOne s e m b z q w = WithinQuantum s (e + 1) m (b + 1) (z + 20100) q w
 
-pub within-weaker : (s : Settings) (e m b z q e' m' b' z' : ℕ) (w : World) → e ≤ e' → m ≤ m' → b ≤ b' → z ≤ z' → WithinQuantum s e m b z q w → WithinQuantum s e' m' b' z' q w
+pub within-weaker : (s : Settings) (e m b z q e' m' b' z' : ℕ) (w : World) → e ≤ e' → m ≤ m' → b ≤ b' → z ≤ z' → WithinQuantum s e m b z q w
+    → WithinQuantum s e' m' b' z' q w
 within-weaker s e m b z q e' m' b' z' w he hm hb hz d =
     record {
       population = population-weaker s.soup_size e m b e' m' b' w he hm hb d.population;
@@ -145,7 +153,8 @@ within-weaker s e m b z q e' m' b' z' w he hm hb hz d =
       saves = saves-weaker q z z' s.save_at w.genotypes w.saved hz d.saves;
     }
 
-within-perform : (s : Settings) (e m b z q : ℕ) (a : Act) (w : World) → WithinQuantum s e m b z q w → CanDo s (front w) a → AfterOne s e m b z q (perform world_machine s a w)
+within-perform : (s : Settings) (e m b z q : ℕ) (a : Act) (w : World) → WithinQuantum s e m b z q w → CanDo s (front w) a
+    → AfterOne s e m b z q (perform world_machine s a w)
 within-perform s e m b z q act.Plain w d c = within-weaker s e m b z q (e + 1) m (b + 1) (z + 20100) w (omega arith) (omega arith) (omega arith) (omega arith) d
 within-perform s e m b z q (act.Wrote at value) w d c =
     within-event (event.Write at value) s e m b z q (e + 1) (b + 1) (z + 20100) w d
@@ -153,7 +162,8 @@ within-perform s e m b z q (act.Wrote at value) w d c =
 within-perform s e m b z q act.Erred w d c =
     within-event event.Err s e m b z q (e + 1) (b + 1) (z + 20100) w d tt (record { errors = omega arith; next_birth = omega arith; size = omega arith })
 within-perform s e m b z q (act.Mal size) w d c =
-    within-weaker s (e + 1) m b z q (e + 1) m (b + 1) (z + 20100) (mal world_machine s size w) (omega arith) (omega arith) (omega arith) (omega arith) (within-mal s e m b z q size w c.0 c.1 d)
+    within-weaker s (e + 1) m b z q (e + 1) m (b + 1) (z + 20100) (mal world_machine s size w) (omega arith) (omega arith) (omega arith) (omega arith)
+    (within-mal s e m b z q size w c.0 c.1 d)
 within-perform s e m b z q act.Divide w d c =
     let l = front-event w event.Good d.population.has_front tt in
     within-event (event.Divide (front w).ran (front w).moved) s e m b z q (e + 1) (b + 1) (z + 20100) (apply_event w event.Good)
@@ -173,17 +183,26 @@ within-settle s e m b z q w o d k h =
     within-perform s e (m + 1) b z q o.1 (put o.0 w) (within-put o.0 s e m b z q w d k.0 h)
     (subst (λ (c : Creature). CanDo s c o.1) (sym same) k.1)
 
-within-instruction : (s : Settings) (e m b z q : ℕ) (draw : ℕ → ℕ) (i : ℕ) (w : World) → WithinQuantum s e m b z q w → AfterOne s e (m + 1) b z q (instruction world_machine s draw i w)
+within-instruction : (s : Settings) (e m b z q : ℕ) (draw : ℕ → ℕ) (i : ℕ) (w : World) → WithinQuantum s e m b z q w
+    → AfterOne s e (m + 1) b z q (instruction world_machine s draw i w)
 unfolding instruction
 within-instruction s e m b z q draw i w d =
     let t : Look Outcome = step s draw i (front w) in
     let f = front-in_bounds s.soup_size e m b w d.population in
     let below = cells_below w.soup d.codes in
     let kept : Keeps s (front w) (walk world_machine s t w).1 =
-    always-walk (Keeps s (front w)) s t w below (step_keeps s draw i (front w) (front w) (record { id = refl; own = refl; daughter = refl; errors = refl; genotype = refl; bred = refl })) in
+    always-walk (Keeps s (front w)) s t w below (step_keeps s draw i (front w) (front w) (record {
+      id = refl;
+      own = refl;
+      daughter = refl;
+      errors = refl;
+      genotype = refl;
+      bred = refl;
+    })) in
     let steps : Steps s.soup_size (m + 1) (walk world_machine s t w).1 =
     always-walk (Steps s.soup_size (m + 1)) s t w below (step_steps s draw i m (front w) (f.ip, f.sp, f.moved, f.ran)) in
-    subst (λ u. AfterOne s e (m + 1) b z q (perform world_machine s (walk world_machine s t w).1.1 (put (walk world_machine s t w).1.0 u))) (sym (walk-stays s t w))
+    subst (λ u. AfterOne s e (m + 1) b z q (perform world_machine s (walk world_machine s t w).1.1 (put (walk world_machine s t w).1.0 u)))
+    (sym (walk-stays s t w))
     (within-settle s e m b z q w (walk world_machine s t w).1 d kept steps)
 
 -- ---- a slice of instructions, and a quantum
@@ -191,13 +210,16 @@ within-instruction s e m b z q draw i w d =
 within-instructions : (s : Settings) (e m b z q : ℕ) (draw : ℕ → ℕ) (k i : ℕ) (w : World) → WithinQuantum s e m b z q w
     → WithinQuantum s (e + k) (m + k) (b + k) (z + 20100 * k) q (instructions world_machine s draw k i w)
 unfolding instructions
-within-instructions s e m b z q draw zero i w d = within-weaker s e m b z q (e + 0) (m + 0) (b + 0) (z + 20100 * 0) w (omega arith) (omega arith) (omega arith) (omega arith) d
+within-instructions s e m b z q draw zero i w d = within-weaker s e m b z q (e + 0) (m + 0) (b + 0) (z + 20100 * 0) w (omega arith) (omega arith) (omega arith)
+    (omega arith) d
 within-instructions s e m b z q draw (suc k) i w d =
-    let r = within-instructions s (e + 1) (m + 1) (b + 1) (z + 20100) q draw k (i + 1) (instruction world_machine s draw i w) (within-instruction s e m b z q draw i w d) in
+    let r = within-instructions s (e + 1) (m + 1) (b + 1) (z + 20100) q draw k (i + 1) (instruction world_machine s draw i w)
+    (within-instruction s e m b z q draw i w d) in
     within-weaker s (e + 1 + k) (m + 1 + k) (b + 1 + k) (z + 20100 + 20100 * k) q (e + suc k) (m + suc k) (b + suc k) (z + 20100 * suc k)
     (instructions world_machine s draw k (i + 1) (instruction world_machine s draw i w)) (omega arith) (omega arith) (omega arith) (omega arith) r
 
-within-flip : (s : Settings) (e m b z q : ℕ) (o : Option (ℕ × ℕ)) (w : World) → FlipOf s.soup_size o → WithinQuantum s e m b z q w → WithinQuantum s e m b z q (flip world_machine s o w)
+within-flip : (s : Settings) (e m b z q : ℕ) (o : Option (ℕ × ℕ)) (w : World) → FlipOf s.soup_size o → WithinQuantum s e m b z q w
+    → WithinQuantum s e m b z q (flip world_machine s o w)
 within-flip s e m b z q None w f d = d
 within-flip s e m b z q (Some c) w f d =
     let v : Event = event.Write c.0 (flip_bit (slice_index w.soup c.0) (Some c.1)) in
@@ -210,17 +232,21 @@ within-reap_times : (s : Settings) (e m b z q k : ℕ) (w : World) → WithinQua
 within-reap_times s e m b z q zero w d = d
 within-reap_times s e m b z q (suc k) w d = go (victim world_machine s w) refl (λ v h. within-reap_times s e m b z q k v h)
   where
-    go : (o : Option ℕ) → victim world_machine s w ≡ o → ((v : World) → WithinQuantum s e m b z q v → WithinQuantum s e m b z q (reap_times world_machine s k v))
+    go : (o : Option ℕ) → victim world_machine s w ≡ o → ((v : World) → WithinQuantum s e m b z q v
+        → WithinQuantum s e m b z q (reap_times world_machine s k v))
         → WithinQuantum s e m b z q (elim o [ None ↦ w | Some p ↦ reap_times world_machine s k (apply_event w (event.Reap p)) ])
     go None h ih = d
     go (Some p) h ih =
-        ih (apply_event w (event.Reap p)) (within-plain (event.Reap p) s e m b z q w d (place_of_first_other-is (front w).id w.reaper p h) (adds-nothing (event.Reap p) e b z refl refl))
+        ih (apply_event w (event.Reap p))
+        (within-plain (event.Reap p) s e m b z q w d (place_of_first_other-is (front w).id w.reaper p h) (adds-nothing (event.Reap p) e b z refl refl))
 
-within-disturb : (s : Settings) (e m b z q : ℕ) (due : Bool) (w : World) → WithinQuantum s e m b z q w → WithinQuantum s e m b z q (disturb world_machine s due w)
+within-disturb : (s : Settings) (e m b z q : ℕ) (due : Bool) (w : World) → WithinQuantum s e m b z q w
+    → WithinQuantum s e m b z q (disturb world_machine s due w)
 within-disturb s e m b z q false w d = d
 within-disturb s e m b z q true w d = within-reap_times s e m b z q (length w.reaper * s.dist_percent / 100) w d
 
-pub within-run : (s : Settings) (e m b z q k : ℕ) (w : World) → WithinQuantum s e m b z q w → WithinQuantum s (e + k) (m + k) (b + k) (z + 20100 * k) q (run world_machine s q k w)
+pub within-run : (s : Settings) (e m b z q k : ℕ) (w : World) → WithinQuantum s e m b z q w
+    → WithinQuantum s (e + k) (m + k) (b + k) (z + 20100 * k) q (run world_machine s q k w)
 unfolding run
 within-run s e m b z q k w d =
     let o : Option (ℕ × ℕ) = back_flip s.back_rate (word s.seed q) s.soup_size in

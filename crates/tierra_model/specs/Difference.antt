@@ -2,7 +2,8 @@
 use Rattle.std.specs.Cmp.Lexicographic.{pointwise}
 use Rattle.std.specs.Option.{option_eq}
 use Rattle.std.specs.Ordering.{int_eq}
-use Rattle.std.specs.Prelude.{Bool, List, None, Option, Some, [], if◌then◌else◌, option_map, slice_get, slice_index, take, ℕ, ◌&&◌, ◌+◌, ◌==◌, ◌∷◌, ◌≡◌, ◌≢◌}
+use Rattle.std.specs.Prelude.{Bool, List, None, Option, Some, [], if◌then◌else◌, option_map, slice_get, slice_index}
+use Rattle.std.specs.Prelude.{take, ℕ, ◌&&◌, ◌+◌, ◌==◌, ◌∷◌, ◌≡◌, ◌≢◌}
 use Rattle.tierra_model.specs.declared.creatures.Block.{Block}
 use Rattle.tierra_model.specs.declared.creatures.Creature.{Creature}
 use Rattle.tierra_model.specs.declared.history.Stale.{Stale}
@@ -54,7 +55,8 @@ or_else (Some x) o = Some x
 
 abbrev pub of_front : Creature → Creature → Option Stale
 of_front seen now =
-    if seen.id == now.id then (if same_creature seen now then None else Some stale.Body) else Some (stale.Front seen.id now.id)
+    if seen.id == now.id then (if same_creature seen now then None else Some stale.Body)
+    else Some (stale.Front seen.id now.id)
 
 -- the first cell that differs, in the order of reading
 abbrev pub of_cells : List (ℕ × ℕ) → List ℕ → Option Stale
@@ -86,8 +88,10 @@ pub record IsLeast {X : Type 0} (seen now : List X) (d : ListDifference X) : Typ
 
 abbrev pub LeastPlace : Type 0
 LeastPlace =
-    ((seen now : List Block) (d : ListDifference Block) → list_difference same_block 0 seen now ≡ Some d → IsLeast seen now d)
-    × ((seen now : List Standing) (d : ListDifference Standing) → list_difference same_standing 0 seen now ≡ Some d → IsLeast seen now d)
+    ((seen now : List Block) (d : ListDifference Block) → list_difference same_block 0 seen now ≡ Some d
+    → IsLeast seen now d)
+    × ((seen now : List Standing) (d : ListDifference Standing) → list_difference same_standing 0 seen now ≡ Some d
+    → IsLeast seen now d)
 
 -- There is no first difference if and only if the reads and the record agree with the world.
 abbrev pub DifferenceTells : Type 0

@@ -1,7 +1,8 @@
 -- What the seed decides. Words 0 to 2 of a quantum's stream decide its background flip, words 3 + 4 i to 6 + 4 i its
 -- instruction i.
 use Rattle.rand_chacha.specs.ChaCha.{key_of, word_at}
-use Rattle.std.specs.Prelude.{Bool, List, None, Option, Some, false, if◌then◌else◌, negsuc, pos, suc, true, zero, ℕ, ℤ, ◌%◌, ◌*◌, ◌+◌, ◌==◌}
+use Rattle.std.specs.Prelude.{Bool, List, None, Option, Some, false, if◌then◌else◌, negsuc, pos, suc, true, zero, ℕ, ℤ}
+use Rattle.std.specs.Prelude.{◌%◌, ◌*◌, ◌+◌, ◌==◌}
 
 -- word k of stream q of ChaCha8 under the seed
 unfoldable pub word : List ℕ → ℕ → ℕ → ℕ

@@ -1,5 +1,6 @@
 -- What each event of a quantum does to the running creature's record, and to a world.
-use Rattle.std.specs.Prelude.{Bool, List, None, Option, Some, [], filter, not, pos, slice_index, slice_range, slice_set, ℕ, ◌++◌, ◌+◌, ◌==◌, ◌∷◌}
+use Rattle.std.specs.Prelude.{Bool, List, None, Option, Some, [], filter, not, pos, slice_index, slice_range, slice_set}
+use Rattle.std.specs.Prelude.{ℕ, ◌++◌, ◌+◌, ◌==◌, ◌∷◌}
 use Rattle.tierra_model.specs.declared.creatures.Block.{Block}
 use Rattle.tierra_model.specs.declared.creatures.Creature.{Creature}
 use Rattle.tierra_model.specs.declared.events.Event.{Event}

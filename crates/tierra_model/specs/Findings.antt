@@ -1,5 +1,6 @@
 -- Findings: what a quantum read and did in a scene, and when the quantum of a world does the same.
-use Rattle.std.specs.Prelude.{List, None, Option, Some, [], replicate, slice_index, slice_set, unwrap_or, ℕ, ◌+◌, ◌-◌, ◌∷◌, ◌<◌, ◌≡◌, ◌≤◌}
+use Rattle.std.specs.Prelude.{List, None, Option, Some, [], replicate, slice_index, slice_set, unwrap_or, ℕ, ◌+◌, ◌-◌}
+use Rattle.std.specs.Prelude.{◌∷◌, ◌<◌, ◌≡◌, ◌≤◌}
 use Rattle.tierra_model.specs.declared.limits.TheConstants.{MOST_QUANTA}
 use Rattle.tierra_model.specs.declared.creatures.Creature.{Creature}
 use Rattle.tierra_model.specs.declared.events.Event.{Event}

@@ -1,5 +1,6 @@
 -- Names of genotypes, and the genebank of a setup.
-use Rattle.std.specs.Prelude.{List, None, [], drop, filter, if◌then◌else◌, length, map, option_map, suc, zero, ℕ, ◌++◌, ◌+◌, ◌==◌, ◌∷◌, ◌≡◌, ◌⊎◌}
+use Rattle.std.specs.Prelude.{List, None, [], drop, filter, if◌then◌else◌, length, map, option_map, suc, zero, ℕ, ◌++◌}
+use Rattle.std.specs.Prelude.{◌+◌, ◌==◌, ◌∷◌, ◌≡◌, ◌⊎◌}
 use Rattle.tierra_model.specs.declared.genebank.Saved.{Saved}
 use Rattle.tierra_model.specs.declared.genebank.Name.{Name}
 use Rattle.tierra_model.specs.declared.genebank.Form.TheVariants as form

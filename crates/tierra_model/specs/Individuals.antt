@@ -1,5 +1,6 @@
 -- Genotypes as individuals are born: numbers, totals, savings and efforts.
-use Rattle.std.specs.Prelude.{List, None, Option, Some, [], if◌then◌else◌, length, option_map, suc, zero, ℕ, ◌++◌, ◌+◌, ◌==◌, ◌∷◌}
+use Rattle.std.specs.Prelude.{List, None, Option, Some, [], if◌then◌else◌, length, option_map, suc, zero, ℕ, ◌++◌, ◌+◌}
+use Rattle.std.specs.Prelude.{◌==◌, ◌∷◌}
 use Rattle.std.specs.Str.{bytes_eq}
 use Rattle.tierra_model.specs.declared.creatures.Creature.{Creature}
 use Rattle.tierra_model.specs.declared.creatures.Effort.{Effort}
@@ -20,7 +21,17 @@ with_one_more (suc k) (g ∷ gs) = g ∷ with_one_more k gs
 unfoldable pub with_individual : List Genotype → List ℕ → Option ℕ → ℕ → List Genotype × ℕ
 with_individual genotypes code parent q =
     elim (genotype_number code genotypes) [
-      | None ↦ (genotypes ++ (record { code = code; parent = parent; first_quantum = q; total = 1; first_effort = None; second_effort = None }) ∷ [], length genotypes)
+      | None ↦ (
+        genotypes ++ (record {
+          code = code;
+          parent = parent;
+          first_quantum = q;
+          total = 1;
+          first_effort = None;
+          second_effort = None;
+        }) ∷ [],
+        length genotypes,
+      )
       | Some k ↦ (with_one_more k genotypes, k)
     ]
 

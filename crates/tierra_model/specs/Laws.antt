@@ -26,7 +26,8 @@ plain_instruction draw i w =
 
 -- An instruction run on a world as a machine does just that.
 abbrev pub InstructionIsPlain : Type 0
-InstructionIsPlain = (w : World) (draw : ℕ → ℕ) (i : ℕ) → instruction world_machine w.settings draw i w ≡ plain_instruction draw i w
+InstructionIsPlain = (w : World) (draw : ℕ → ℕ) (i : ℕ)
+    → instruction world_machine w.settings draw i w ≡ plain_instruction draw i w
 
 -- A quantum of a sound world leaves a sound world, with the same settings and one quantum more.
 pub record StaysSound (w : World) : Type 0 where
@@ -52,17 +53,20 @@ pub record TurnsSound (w : World) (q id : ℕ) : Type 0 where
   pub front : first_of (ahead w q id).slicer ≡ id
 
 abbrev pub AheadIsSound : Type 0
-AheadIsSound = (w : World) (q id : ℕ) → IsSound w → w.quanta + 1 ≤ q → q ≤ MOST_QUANTA → 0 < times_in w.slicer id → TurnsSound w q id
+AheadIsSound = (w : World) (q id : ℕ) → IsSound w → w.quanta + 1 ≤ q → q ≤ MOST_QUANTA → 0 < times_in w.slicer id
+    → TurnsSound w q id
 
 -- The disturbance of a sound world, which comes after the background flip, counts the living.
 abbrev pub DisturbanceCountsLiving : Type 0
 DisturbanceCountsLiving = (w : World) (bit : Option (ℕ × ℕ)) → IsSound w
     → disturb world_machine w.settings true (flip world_machine w.settings bit w)
-    ≡ reap_times world_machine w.settings (length w.living * w.settings.dist_percent / 100) (flip world_machine w.settings bit w)
+    ≡ reap_times world_machine w.settings (length w.living * w.settings.dist_percent / 100)
+    (flip world_machine w.settings bit w)
 
 -- The groups of the world after n quanta are the genebank of a run of n quanta.
 abbrev pub BankIsGroups : Type 0
-BankIsGroups = (setup : SetupFields) (n : ℕ) → IsSetup setup → n ≤ MOST_QUANTA → groups_of (serial setup n) ≡ bank setup (n + 1)
+BankIsGroups = (setup : SetupFields) (n : ℕ) → IsSetup setup → n ≤ MOST_QUANTA
+    → groups_of (serial setup n) ≡ bank setup (n + 1)
 
 -- Each group of a genebank is in the ranges.
 abbrev pub BankInRange : Type 0
@@ -72,5 +76,7 @@ BankInRange = (setup : SetupFields) (n : ℕ) → IsSetup setup → n ≤ MOST_Q
 abbrev pub YardsAreSafe : Type 0
 YardsAreSafe =
     ((w : World) (k : ℕ) → IsSound w → All (λ c. c.id ≢ stand_in k) w.living)
-    × ((c : Creature) (errors : Standing → ℕ) (standings : List Standing) → All (λ x. is_standing_of c x ≡ false) standings
-    → (error_move (is_standing_of c) errors standings ≡ standings) × (good_move (is_standing_of c) errors standings ≡ standings))
+    × ((c : Creature) (errors : Standing → ℕ) (standings : List Standing)
+    → All (λ x. is_standing_of c x ≡ false) standings
+    → (error_move (is_standing_of c) errors standings ≡ standings)
+    × (good_move (is_standing_of c) errors standings ≡ standings))

@@ -25,7 +25,8 @@ pub record Log : Type 0 where
 abbrev pub with_logged_cell : Log → ℕ → Log
 with_logged_cell x p =
     record x {
-      cells = (if is_noted x.cells p || list_any (writes p) x.events then x.cells else x.cells ++ (p, slice_index x.start.soup p) ∷ []);
+      cells = (if is_noted x.cells p || list_any (writes p) x.events then x.cells
+          else x.cells ++ (p, slice_index x.start.soup p) ∷ []);
     }
 
 abbrev pub log_machine : Machine Log

@@ -1,5 +1,6 @@
 -- A quantum, on a world or on what stands for one.
-use Rattle.std.specs.Prelude.{Bool, List, None, Option, Some, false, if◌then◌else◌, length, max, min, slice_index, suc, true, zero, ℕ, ◌%◌, ◌*◌, ◌+◌, ◌/◌, ◌==◌}
+use Rattle.std.specs.Prelude.{Bool, List, None, Option, Some, false, if◌then◌else◌, length, max, min, slice_index, suc}
+use Rattle.std.specs.Prelude.{true, zero, ℕ, ◌%◌, ◌*◌, ◌+◌, ◌/◌, ◌==◌}
 use Rattle.tierra_model.specs.declared.events.Act.{Act}
 use Rattle.tierra_model.specs.declared.creatures.Creature.{Creature}
 use Rattle.tierra_model.specs.declared.events.Event.{Event}

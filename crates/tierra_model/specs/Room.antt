@@ -1,6 +1,7 @@
 -- Owned cells, and where a block finds room.
 use Rattle.std.specs.List.{list_any}
-use Rattle.std.specs.Prelude.{◌≡◌, ◌<◌, ◌≤◌, Bool, List, None, Option, Some, false, if◌then◌else◌, nat_le, suc, true, zero, ℕ, ◌*◌, ◌+◌, ◌-◌, ◌==◌, ◌||◌}
+use Rattle.std.specs.Prelude.{◌≡◌, ◌<◌, ◌≤◌, Bool, List, None, Option, Some, false, if◌then◌else◌, nat_le, suc, true}
+use Rattle.std.specs.Prelude.{zero, ℕ, ◌*◌, ◌+◌, ◌-◌, ◌==◌, ◌||◌}
 use Rattle.tierra_model.specs.declared.creatures.Creature.{Creature}
 use Rattle.tierra_model.specs.declared.parameters.Settings.{Settings}
 use Rattle.tierra_model.specs.Blocks.{is_in, is_in_daughter}

@@ -1,5 +1,6 @@
 -- A scene: what a quantum can see of a world.
-use Rattle.std.specs.Prelude.{Bool, List, None, Option, Some, [], not, slice_index_or, slice_set, ℕ, ◌&&◌, ◌++◌, ◌+◌, ◌||◌, ◌∷◌}
+use Rattle.std.specs.Prelude.{Bool, List, None, Option, Some, [], not, slice_index_or, slice_set, ℕ, ◌&&◌, ◌++◌, ◌+◌}
+use Rattle.std.specs.Prelude.{◌||◌, ◌∷◌}
 use Rattle.tierra_model.specs.declared.creatures.Block.{Block}
 use Rattle.tierra_model.specs.declared.creatures.Creature.{Creature}
 use Rattle.tierra_model.specs.declared.events.Event.{Event}
@@ -23,7 +24,14 @@ pub record Scene : Type 0 where
 
 unfoldable pub scene_of : World → Scene
 scene_of w =
-    record { settings = w.settings; quanta = w.quanta; front = front w; soup = w.soup; free = free_list w; yard = yard w }
+    record {
+      settings = w.settings;
+      quanta = w.quanta;
+      front = front w;
+      soup = w.soup;
+      free = free_list w;
+      yard = yard w;
+    }
 
 -- the running creature's standing in the yard follows its record
 abbrev pub set_front : Creature → Scene → Scene
@@ -40,7 +48,8 @@ with_taken b s = record s { free = runs_of s.settings.soup_size (λ p. is_in_som
 -- newborn k of the quantum stands at the bottom
 abbrev pub with_newborn : ℕ → Option Block → Scene → Scene
 with_newborn k None s = s
-with_newborn k (Some b) s = record s { yard = s.yard ++ (record { id = stand_in k; errors = 0; own = b; daughter = None }) ∷ [] }
+with_newborn k (Some b) s =
+    record s { yard = s.yard ++ (record { id = stand_in k; errors = 0; own = b; daughter = None }) ∷ [] }
 
 -- What an event does to a scene in which k creatures were born in this quantum.
 unfoldable pub apply_in_scene : ℕ → Scene → Event → Scene

@@ -1,6 +1,7 @@
 -- A quantum that runs in a scene, and notes what it reads.
 use Rattle.std.specs.List.{list_any}
-use Rattle.std.specs.Prelude.{Bool, List, [], false, if◌then◌else◌, map, not, slice_index, true, ℕ, ◌++◌, ◌+◌, ◌||◌, ◌∷◌}
+use Rattle.std.specs.Prelude.{Bool, List, [], false, if◌then◌else◌, map, not, slice_index, true, ℕ, ◌++◌, ◌+◌, ◌||◌}
+use Rattle.std.specs.Prelude.{◌∷◌}
 use Rattle.tierra_model.specs.declared.events.Event.{Event}
 use Rattle.tierra_model.specs.declared.events.Event.TheVariants as event
 use Rattle.tierra_model.specs.Quantum.{Machine, run, slice_of}
@@ -25,7 +26,8 @@ abbrev pub is_known : SceneRun → ℕ → Bool
 is_known x p = is_noted x.cells p || list_any (writes p) x.events
 
 unfoldable pub with_noted_cell : SceneRun → ℕ → SceneRun
-with_noted_cell x p = record x { cells = (if is_known x p then x.cells else x.cells ++ (p, slice_index x.start.soup p) ∷ []) }
+with_noted_cell x p =
+    record x { cells = (if is_known x p then x.cells else x.cells ++ (p, slice_index x.start.soup p) ∷ []) }
 
 abbrev pub births_of : Event → ℕ
 births_of (event.Write at value) = 0
@@ -47,7 +49,11 @@ scene_machine =
       ask_free = λ x. record x { free_noted = true };
       reaper = λ x. map (λ s. s.id) x.now.yard;
       ask_reaper = λ x. record x { yard_noted = true };
-      apply = λ x e. record x { now = apply_in_scene x.newborns x.now e; events = x.events ++ e ∷ []; newborns = x.newborns + births_of e };
+      apply = λ x e. record x {
+        now = apply_in_scene x.newborns x.now e;
+        events = x.events ++ e ∷ [];
+        newborns = x.newborns + births_of e;
+      };
     }
 
 abbrev pub run_start : Scene → SceneRun

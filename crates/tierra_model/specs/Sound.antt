@@ -1,5 +1,6 @@
 -- When a world is sound.
-use Rattle.std.specs.Prelude.{All, IfSome, List, [], if◌then◌else◌, length, map, nat_le, ℕ, ◌*◌, ◌+◌, ◌<◌, ◌==◌, ◌^◌, ◌∷◌, ◌≡◌, ◌≤◌}
+use Rattle.std.specs.Prelude.{All, IfSome, List, [], if◌then◌else◌, length, map, nat_le, ℕ, ◌*◌, ◌+◌, ◌<◌, ◌==◌, ◌^◌}
+use Rattle.std.specs.Prelude.{◌∷◌, ◌≡◌, ◌≤◌}
 use Rattle.std.specs.Str.{bytes_eq}
 use Rattle.tierra_model.specs.declared.limits.TheConstants.{MOST_QUANTA, MOST_SLICE}
 use Rattle.tierra_model.specs.declared.creatures.Creature.{Creature}
@@ -78,7 +79,8 @@ pub record IsSound (w : World) : Type 0 where
   pub living_and_dead : length w.living + w.deaths + 1 ≡ w.next_birth
   pub quanta : w.quanta ≤ MOST_QUANTA
   pub next_birth : w.next_birth ≤ count_limit w.quanta
-  pub small : All (λ c. (c.errors ≤ count_limit w.quanta) × (c.moved ≤ count_limit w.quanta) × (c.ran ≤ count_limit w.quanta) × (c.bred ≤ count_limit w.quanta)) w.living
+  pub small : All (λ c. (c.errors ≤ count_limit w.quanta) × (c.moved ≤ count_limit w.quanta)
+      × (c.ran ≤ count_limit w.quanta) × (c.bred ≤ count_limit w.quanta)) w.living
   -- the genotypes: no two have the same code
   pub coded_once : (code : List ℕ) → times_coded w.genotypes code ≤ 1
   pub written : All (λ g. IsCode g.code) w.genotypes
@@ -87,7 +89,8 @@ pub record IsSound (w : World) : Type 0 where
   pub efforts : All (λ g. AreEfforts g.first_effort g.second_effort) w.genotypes
   -- the saved genotypes: exactly those whose total is at least save_at, each once (past the end of the genotypes the
   -- total is 0, and save_at is at least 1)
-  pub saved : (k : ℕ) → times_in (numbers_of w.saved) k ≡ one_if (nat_le w.settings.save_at (genotype_at w.genotypes k).total)
+  pub saved : (k : ℕ) → times_in (numbers_of w.saved) k
+      ≡ one_if (nat_le w.settings.save_at (genotype_at w.genotypes k).total)
   pub rising : Rising 0 w.saved
   pub past : All (λ s. s.quantum ≤ w.quanta) w.saved
   pub saved_efforts : All (λ s. AreEfforts s.first_effort s.second_effort) w.saved

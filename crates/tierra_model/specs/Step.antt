@@ -1,11 +1,15 @@
 -- One instruction of one creature: the record after it, what it wants done, and the cells that it looked at.
-use Rattle.std.specs.Prelude.{Bool, None, Option, Some, bit_xor, false, if◌then◌else◌, min, nat_le, negsuc, pos, slice_index_or, slice_set, unsigned_abs, ℕ, ℤ, ◌%◌, ◌&&◌, ◌*◌, ◌+ℤ◌, ◌+◌, ◌==◌, ◌^◌, ◌||◌}
+use Rattle.std.specs.Prelude.{Bool, None, Option, Some, bit_xor, false, if◌then◌else◌, min, nat_le, negsuc, pos}
+use Rattle.std.specs.Prelude.{slice_index_or, slice_set, unsigned_abs, ℕ, ℤ, ◌%◌, ◌&&◌, ◌*◌, ◌+ℤ◌, ◌+◌, ◌==◌, ◌^◌, ◌||◌}
 use Rattle.tierra_model.specs.declared.events.Act.{Act}
 use Rattle.tierra_model.specs.declared.creatures.Block.{Block}
 use Rattle.tierra_model.specs.declared.creatures.Creature.{Creature}
 use Rattle.tierra_model.specs.declared.searching.Found.{Found}
 use Rattle.tierra_model.specs.declared.ops.Op.{Op}
-use Rattle.tierra_model.specs.declared.ops.Op.TheVariants.{Adr, AdrB, AdrF, Call, DecC, Divide, IfCz, IncA, IncB, IncC, Jmp, JmpB, Mal, MovAb, MovCd, MovIab, Nop0, Nop1, Or1, PopAx, PopBx, PopCx, PopDx, PushAx, PushBx, PushCx, PushDx, Ret, Shl, SubAb, SubAc, Zero}
+use Rattle.tierra_model.specs.declared.ops.Op.TheVariants.{Adr, AdrB, AdrF, Call, DecC, Divide, IfCz, IncA, IncB, IncC}
+use Rattle.tierra_model.specs.declared.ops.Op.TheVariants.{Jmp, JmpB, Mal, MovAb, MovCd, MovIab, Nop0, Nop1, Or1, PopAx}
+use Rattle.tierra_model.specs.declared.ops.Op.TheVariants.{PopBx, PopCx, PopDx, PushAx, PushBx, PushCx, PushDx, Ret}
+use Rattle.tierra_model.specs.declared.ops.Op.TheVariants.{Shl, SubAb, SubAc, Zero}
 use Rattle.tierra_model.specs.declared.parameters.Settings.{Settings}
 use Rattle.tierra_model.specs.declared.searching.Way.TheVariants.{Backward, Forward, Outward}
 use Rattle.tierra_model.specs.declared.events.Act.TheVariants as act
@@ -113,11 +117,14 @@ execute s f bit ip c MovCd = plain_outcome (record c { dx = plus c.cx f })
 execute s f bit ip c MovAb = plain_outcome (record c { bx = plus c.ax f })
 execute s f bit ip c MovIab = copy c (address c.bx s.soup_size) (address c.ax s.soup_size) bit
 execute s f bit ip c Adr =
-    search_for s.soup_size ip Outward s.search_limit s.min_template >>= to_found c (λ p. record c { ax = plus (pos p) f })
+    search_for s.soup_size ip Outward s.search_limit s.min_template >>= to_found c
+    (λ p. record c { ax = plus (pos p) f })
 execute s f bit ip c AdrB =
-    search_for s.soup_size ip Backward s.search_limit s.min_template >>= to_found c (λ p. record c { ax = plus (pos p) f })
+    search_for s.soup_size ip Backward s.search_limit s.min_template >>= to_found c
+    (λ p. record c { ax = plus (pos p) f })
 execute s f bit ip c AdrF =
-    search_for s.soup_size ip Forward s.search_limit s.min_template >>= to_found c (λ p. record c { ax = plus (pos p) f })
+    search_for s.soup_size ip Forward s.search_limit s.min_template >>= to_found c
+    (λ p. record c { ax = plus (pos p) f })
 execute s f bit ip c Mal = Answer (c, mal_act (mal_request s c.own.size c.cx))
 execute s f bit ip c Divide =
     Answer (c, (if may_divide s c.daughter c.moved then act.Divide else act.Erred))
@@ -127,4 +134,8 @@ execute s f bit ip c Divide =
 unfoldable pub step : Settings → (ℕ → ℕ) → ℕ → Creature → Look Outcome
 step s draw i c = do
   code ← cell c.ip
-  execute s (flaw s.flaw_rate draw i) (copy_bit s.copy_rate draw i) c.ip (record c { ip = (c.ip + 1) % s.soup_size; flag = 0; ran = c.ran + 1 }) (op_of code)
+  execute s (flaw s.flaw_rate draw i) (copy_bit s.copy_rate draw i) c.ip (record c {
+    ip = (c.ip + 1) % s.soup_size;
+    flag = 0;
+    ran = c.ran + 1;
+  }) (op_of code)

@@ -1,7 +1,10 @@
 -- The table of instructions: the code of each is its place.
 use Rattle.std.specs.Prelude.{List, [], slice_index_or, ℕ, ◌∷◌}
 use Rattle.tierra_model.specs.declared.ops.Op.{Op}
-use Rattle.tierra_model.specs.declared.ops.Op.TheVariants.{Adr, AdrB, AdrF, Call, DecC, Divide, IfCz, IncA, IncB, IncC, Jmp, JmpB, Mal, MovAb, MovCd, MovIab, Nop0, Nop1, Or1, PopAx, PopBx, PopCx, PopDx, PushAx, PushBx, PushCx, PushDx, Ret, Shl, SubAb, SubAc, Zero}
+use Rattle.tierra_model.specs.declared.ops.Op.TheVariants.{Adr, AdrB, AdrF, Call, DecC, Divide, IfCz, IncA, IncB, IncC}
+use Rattle.tierra_model.specs.declared.ops.Op.TheVariants.{Jmp, JmpB, Mal, MovAb, MovCd, MovIab, Nop0, Nop1, Or1, PopAx}
+use Rattle.tierra_model.specs.declared.ops.Op.TheVariants.{PopBx, PopCx, PopDx, PushAx, PushBx, PushCx, PushDx, Ret}
+use Rattle.tierra_model.specs.declared.ops.Op.TheVariants.{Shl, SubAb, SubAc, Zero}
 
 abbrev pub ops : List Op
 ops =

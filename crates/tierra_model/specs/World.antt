@@ -17,7 +17,14 @@ pub record Genotype : Type 0 where
 
 -- what a place past the end of the genotypes gives
 abbrev pub no_genotype : Genotype
-no_genotype = record { code = []; parent = None; first_quantum = 0; total = 0; first_effort = None; second_effort = None }
+no_genotype = record {
+  code = [];
+  parent = None;
+  first_quantum = 0;
+  total = 0;
+  first_effort = None;
+  second_effort = None;
+}
 
 abbrev pub genotype_at : List Genotype → ℕ → Genotype
 genotype_at genotypes k = slice_index_or genotypes k no_genotype

@@ -3,7 +3,7 @@
 ghost use Rattle.std.specs.Prelude.{◌≤◌};
 ghost use Rattle.tierra_model.specs.declared.keys.TheConstants.{SOUP_SIZE, SLICE_SIZE, SLICE_NUM, SLICE_DEN, SEARCH_LIMIT, MIN_TEMPLATE, MIN_CELL, MAX_CELL, MAL_MULT, FILL_PERCENT, MOVE_PERCENT, SAVE_AT, DIST_EVERY, DIST_PERCENT};
 
-/// The settings of a world. The type ensures that each is in its range.
+/// The settings of a world. The type ensures that each is in its range (`keys`).
 #[derive(Clone, Copy, Drop, PartialEq, Eq, Debug)]
 pub struct Settings {
     /// The number of cells.

@@ -57,7 +57,8 @@ module _ {T : Type 0} (summary : T → Summary) (o : Summary) where
       let grown : HasGrown v.opening r.counts (summary x) = subst (λ (z : Summary). HasGrown z r.counts (summary x)) (sym ok.opening) home.2 in
       let unused : (i : ℕ) → own_at v i ≡ None → get_or r.counts i 0 ≡ 0 =
       λ i e. r.unused i (dite (dec_le r.last i) (λ h. h) (λ low. let n = mine i (omega arith) in absurd (none-some n.0 (sym e ∙ n.1)))) in
-      let alike : (i : ℕ) → get_or r.counts i 0 ≡ count_or_zero (own_at v i) = λ i. count_at (own_at v i) (get_or r.counts i 0) (λ n e. (ok.own i n e).2) (unused i) in
+      let alike : (i : ℕ) → get_or r.counts i 0 ≡ count_or_zero (own_at v i) =
+      λ i. count_at (own_at v i) (get_or r.counts i 0) (λ n e. (ok.own i n e).2) (unused i) in
       let sums : sum r.counts ≡ own_total (seat_of table v) = sum-alike v.own r.counts (r.places ∙ sym ok.places) alike in (
         x,
         homes 0 (Some x) (ap (λ (h : List (maybe.Option (Option T))). get_elem? h 0) home.1),

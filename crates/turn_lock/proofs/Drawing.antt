@@ -26,7 +26,8 @@ module _ {T : Type 0} (summary : T → Summary) (o : Summary) where
       let v : View = a.0 in
       let active : IsActive v.stage = subst IsActive (sym idle) tt in
       let ok = r.each_seat id v at active in
-      let left : v.left + v.turns + 0 ≡ most_tickets * count_by is_some v.own = subst (λ (stage : Stage). v.left + v.turns + ticket_count stage ≡ most_tickets * count_by is_some v.own) idle ok.left in
+      let left : v.left + v.turns + 0 ≡ most_tickets * count_by is_some v.own =
+      subst (λ (stage : Stage). v.left + v.turns + ticket_count stage ≡ most_tickets * count_by is_some v.own) idle ok.left in
       let at_least = count_some v.own v.place ok.speaks.0 ok.speaks.1 in
       let t : ℕ = r.ticket in
       let w : View = after_draw v t in
@@ -46,7 +47,12 @@ module _ {T : Type 0} (summary : T → Summary) (o : Summary) where
         places = r.places;
         order = omega arith;
         queue = λ n low high. dite (ℕ_discrete n t)
-            (λ e. (w, subst (λ (j : ℕ). get_elem? (set s.views id w) j ≡ some w) (sym (put_here r.holder t id n e)) (set_here s.views id w (inside s.views id v at)), sym e))
+            (λ e. (
+              w,
+              subst (λ (j : ℕ). get_elem? (set s.views id w) j ≡ some w) (sym (put_here r.holder t id n e))
+                  (set_here s.views id w (inside s.views id v at)),
+              sym e,
+            ))
             (λ ne. subst (λ (j : ℕ). (u : View) × (get_elem? (set s.views id w) j ≡ some u) × HasTicket u.stage n) (sym (put_else r.holder t id n ne))
             (queue_stays s.views id (r.holder n) n v w at (λ h. absurd (subst (λ (stage : Stage). HasTicket stage n) idle h)) (r.queue n low (omega arith))));
         given = r.given;

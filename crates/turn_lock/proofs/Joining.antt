@@ -39,7 +39,8 @@ module _ {T : Type 0} (summary : T → Summary) (o : Summary) where
         speaks = (a.speaks.0, merged_left v.own w.own v.place a.speaks.0 a.speaks.1);
         seen = let x = a.seen in let y = b.seen in omega arith;
         left =
-            let x = a.left in let y = b.left in let tv : ticket_count v.stage ≡ 0 = ap ticket_count idle_v in let tw : ticket_count w.stage ≡ 0 = ap ticket_count idle_w in
+            let x = a.left in let y = b.left in let tv : ticket_count v.stage ≡ 0 = ap ticket_count idle_v in let tw : ticket_count w.stage ≡ 0 =
+            ap ticket_count idle_w in
             let c = count-merged v.own w.own same_length (λ i k l p q. apart (sym (b.own i l q).1 ∙ (a.own i k p).1)) in omega arith;
         holds_last = λ n e. ⊎_elim
             (λ p. or_left v.last_caller w.last_caller r.last (a.holds_last n p))
@@ -73,12 +74,21 @@ module _ {T : Type 0} (summary : T → Summary) (o : Summary) where
         given = r.given;
         spoken = λ i low. let q = r.spoken i low in dite (ℕ_discrete (r.owner i) other)
             (λ e. let its = subst (λ (u : View). (n : ℕ) × (own_at u i ≡ Some n)) (same_at s.views (r.owner i) other q.0 w e q.1 at') q.3 in
-            subst (λ (j : ℕ). Speaks (set views other spent) j i) (sym (put_here (λ z. z) other id (r.owner i) e))
-            (both, set_else views other id spent (λ h. apart (sym h)) ∙ set_here s.views id both (inside s.views id v at), active_v, merged_right v.own w.own i its.0 its.1))
+            subst (λ (j : ℕ). Speaks (set views other spent) j i) (sym (put_here (λ z. z) other id (r.owner i) e)) (
+              both,
+              set_else views other id spent (λ h. apart (sym h))
+                  ∙ set_here s.views id both (inside s.views id v at),
+              active_v,
+              merged_right v.own w.own i its.0 its.1,
+            ))
             (λ ne. let p = speaks_stays s.views id (r.owner i) i v both at active_v (λ n e. (n, merged_left v.own w.own i n e)) q in
-            subst (λ (j : ℕ). Speaks (set views other spent) j i) (sym (put_else (λ z. z) other id (r.owner i) ne)) (p.0, set_else views other (r.owner i) spent ne ∙ p.1, p.2, p.3));
+            subst (λ (j : ℕ). Speaks (set views other spent) j i) (sym (put_else (λ z. z) other id (r.owner i) ne))
+            (p.0, set_else views other (r.owner i) spent ne ∙ p.1, p.2, p.3));
         unused = r.unused;
         total = let x = sum_at left_of s.views id v both at in let y = sum_at left_of views other w spent there in let now = r.total in omega arith;
-        each_seat = each_seat_stays (λ j d. IsActive d.stage → SeatFits o r.ticket r.serving r.last r.counts r.holder owner j d) views other spent (λ lives. absurd lives) (λ j d ne at_j. all_but_other j d at_j ne);
-        at_home = λ free. r.at_home (none_held s.views id v both at (λ h. h) (none_held views other w spent there (λ h. absurd (subst IsHolding idle_w h)) free));
+        each_seat = each_seat_stays (λ j d. IsActive d.stage
+            → SeatFits o r.ticket r.serving r.last r.counts r.holder owner j d) views other spent (λ lives. absurd lives)
+            (λ j d ne at_j. all_but_other j d at_j ne);
+        at_home = λ free.
+            r.at_home (none_held s.views id v both at (λ h. h) (none_held views other w spent there (λ h. absurd (subst IsHolding idle_w h)) free));
       }

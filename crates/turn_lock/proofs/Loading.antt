@@ -1,5 +1,6 @@
 -- Loading serving, and loading a count, keep the rule.
-use Rattle.std.proofs.Common.{◌≡◌, ℕ, suc, ◌+◌, ◌^◌, ◌<◌, ◌≤◌, List, [], ◌∷◌, ◌++◌, length, get_or, set, take, sym, refl, ap, ◌∙◌, subst, arith, Option, length-append}
+use Rattle.std.proofs.Common.{◌≡◌, ℕ, suc, ◌+◌, ◌^◌, ◌<◌, ◌≤◌, List, [], ◌∷◌, ◌++◌, length, get_or, set, take, sym, refl, ap, ◌∙◌, subst, arith, Option}
+use Rattle.std.proofs.Common.{length-append}
 use Rattle.std.specs.Prelude.{count_by, is_some}
 use mathlib.Core.Logic.{dite}
 use mathlib.Core.Option.{none}
@@ -80,7 +81,8 @@ module _ {T : Type 0} (summary : T → Summary) (o : Summary) where
         after_call v,
         keeps,
         tt,
-        restages summary o s r id v (Called (ticket_of v.stage) []) at active tt (called_count v.stage n waits) (λ k. called_ticket v.stage n k waits) (λ held. absurd (not_holding v.stage n waits held))
+        restages summary o s r id v (Called (ticket_of v.stage) []) at active tt (called_count v.stage n waits) (λ k. called_ticket v.stage n k waits)
+            (λ held. absurd (not_holding v.stage n waits held))
             (called_fits r.ticket n r.counts r.holder id v.stage waits ok.stage),
         record { called = λ _. refl; same = λ not_so. absurd (not_so waits); turns = turns },
       ))
@@ -99,17 +101,20 @@ module _ {T : Type 0} (summary : T → Summary) (o : Summary) where
       let v : View = a.0 in
       let active : IsActive v.stage = subst IsActive (sym called) tt in
       let ok = r.each_seat id v at active in
-      let mine : StageFits r.ticket r.serving r.counts r.holder id (Called t counts) = subst (StageFits r.ticket r.serving r.counts r.holder id) called ok.stage in
+      let mine : StageFits r.ticket r.serving r.counts r.holder id (Called t counts) =
+      subst (StageFits r.ticket r.serving r.counts r.holder id) called ok.stage in
       let i : ℕ = length counts in
       let places = r.places in
       let at_word : suc (suc i) ≡ word = omega arith in
       let n : ℕ = get_or r.counts i 0 in
       let stage : Stage = Called t (counts ++ n ∷ []) in
-      let stage_is : Called (ticket_of v.stage) (counts_read v.stage ++ n ∷ []) ≡ stage = ap (λ (z : Stage). Called (ticket_of z) (counts_read z ++ n ∷ [])) called in
+      let stage_is : Called (ticket_of v.stage) (counts_read v.stage ++ n ∷ []) ≡ stage =
+      ap (λ (z : Stage). Called (ticket_of z) (counts_read z ++ n ∷ [])) called in
       let longer : length (counts ++ n ∷ []) ≡ suc i = omega (arith, length-append counts (n ∷ [])) in
       let present : counts ++ n ∷ [] ≡ take (length (counts ++ n ∷ [])) r.counts =
       ap (λ (l : List ℕ). l ++ n ∷ []) mine.3 ∙ (sym (take-suc r.counts i 0 (omega arith)) ∙ ap (λ (k : ℕ). take k r.counts) (sym longer)) in
-      let new = restages summary o s r id v stage at active tt (ap ticket_count (sym called)) (λ k h. subst (λ (z : Stage). HasTicket z k) called h) (λ h. subst IsHolding called h) (mine.0, mine.1, mine.2, present) in
+      let new = restages summary o s r id v stage at active tt (ap ticket_count (sym called)) (λ k h. subst (λ (z : Stage). HasTicket z k) called h)
+      (λ h. subst IsHolding called h) (mine.0, mine.1, mine.2, present) in
       let Goal : List ℕ × ℕ → Type 0 = λ p. (w : View) × (x : Act (Option T)) × Valid s.homes a.1 x
       × KeepsRule summary o (stepped (record { words = p.0; homes = s.homes; views = s.views }) p.1 (get_or p.0 p.1 0) id a.1 w x)
       × LoadsCount (step slots p.1 0 0 none) a (get_or p.0 p.1 0) (w, carried_after a.1 x) in
@@ -117,6 +122,7 @@ module _ {T : Type 0} (summary : T → Summary) (o : Summary) where
         at_stage v stage,
         keeps,
         tt,
-        subst (λ (cs : List ℕ). KeepsRule summary o record { words = r.ticket ∷ r.serving ∷ cs; homes = s.homes; views = set s.views id (at_stage v stage) }) (sym (set-get_or r.counts i 0)) new,
+        subst (λ (cs : List ℕ). KeepsRule summary o record { words = r.ticket ∷ r.serving ∷ cs; homes = s.homes; views = set s.views id (at_stage v stage) })
+            (sym (set-get_or r.counts i 0)) new,
         ap (λ (z : Stage). (at_stage v z, a.1)) (sym stage_is),
       )

@@ -1,5 +1,6 @@
 -- The loop that takes in the counts of another seat.
-use Rattle.std.proofs.Common.{◌≡◌, ℕ, ◌+◌, ◌<◌, ◌≤◌, List, length, get_or, set, sym, refl, ap, ◌∙◌, arith, Option, None, length-set, get_or-set_other, get_or-set_same}
+use Rattle.std.proofs.Common.{◌≡◌, ℕ, ◌+◌, ◌<◌, ◌≤◌, List, length, get_or, set, sym, refl, ap, ◌∙◌, arith, Option, None, length-set, get_or-set_other}
+use Rattle.std.proofs.Common.{get_or-set_same}
 use Rattle.std.specs.Option.{option_or}
 use mathlib.Core.Logic.{dite}
 use native.Mathlib.Decide.{ℕ_discrete}
@@ -23,7 +24,8 @@ merged_more xs ys own i inside was =
       places = length-set own i o ∙ was.places;
       below = λ k h. dite (ℕ_discrete k i)
           (λ e. ap (λ (j : ℕ). get_or (set own i o) j None) e ∙ (get_or-set_same own i o None inside
-          ∙ (ap (λ (z : Option ℕ). option_or z (get_or ys i None)) (was.above i (omega arith)) ∙ ap (λ (j : ℕ). option_or (get_or xs j None) (get_or ys j None)) (sym e))))
+          ∙ (ap (λ (z : Option ℕ). option_or z (get_or ys i None)) (was.above i (omega arith))
+          ∙ ap (λ (j : ℕ). option_or (get_or xs j None) (get_or ys j None)) (sym e))))
           (λ other. get_or-set_other own i k o None other ∙ was.below k (omega arith));
       above = λ k h. get_or-set_other own i k o None (λ e. omega arith) ∙ was.above k (omega arith);
     }

@@ -1,5 +1,6 @@
 -- The fields of a seat after a split and a join, and what they say of callers by number.
-use Rattle.std.proofs.Common.{◌≡◌, ℕ, zero, suc, ◌+◌, ◌-◌, ◌≤◌, List, [], ◌∷◌, get_or, sym, refl, ap, ◌∙◌, subst, arith, Option, Some, None, length-set, get_or-set_same}
+use Rattle.std.proofs.Common.{◌≡◌, ℕ, zero, suc, ◌+◌, ◌-◌, ◌≤◌, List, [], ◌∷◌, get_or, sym, refl, ap, ◌∙◌, subst, arith, Option, Some, None, length-set}
+use Rattle.std.proofs.Common.{get_or-set_same}
 use Rattle.std.specs.Prelude.{max}
 use Rattle.std.specs.Option.{option_or}
 use Rattle.atomic_table.specs.Seated.{TableId}
@@ -13,7 +14,16 @@ module _ (views : List View) (caller turns seen : ℕ) (own : List (Option ℕ))
   pub mirrors_split : (views' : List View) → views' ≡ after_split (view_of views) ∷ [] → MirrorsSeat views' caller turns seen own
   mirrors_split views' is =
       let new : MirrorsSeat (after_split (view_of views) ∷ []) caller turns seen own =
-      record { one = refl; idle = ok.idle; caller_is = ok.caller_is; turns_are = ok.turns_are; seen_is = ok.seen_is; own_is = ok.own_is; places = ok.places; speaks = ok.speaks } in
+      record {
+        one = refl;
+        idle = ok.idle;
+        caller_is = ok.caller_is;
+        turns_are = ok.turns_are;
+        seen_is = ok.seen_is;
+        own_is = ok.own_is;
+        places = ok.places;
+        speaks = ok.speaks;
+      } in
       subst (λ (l : List View). MirrorsSeat l caller turns seen own) (sym is) new
 
   pub mirrors_new : (views' : List View) (caller' : ℕ) → caller' ≡ suc (last_of (view_of views)) → caller' ≤ 64

@@ -39,7 +39,8 @@ module _ {T : Type 0} (summary : T → Summary) where
         spoken = λ i low. (v, refl, tt, (0, let e : 0 ≡ i = omega arith in ap (λ (k : ℕ). own_at v k) (sym e)));
         unused = λ i _. zeros_zero 64 i;
         total = refl;
-        each_seat = λ j d h _. let t = one_at v d j h in subst (λ (z : ℕ × View). SeatFits o 0 0 1 (zeros 64) (λ _. 0) (λ _. 0) z.0 z.1) (λ k. (sym t.0 k, t.1 k)) first_fits;
+        each_seat = λ j d h _. let t = one_at v d j h in
+            subst (λ (z : ℕ × View). SeatFits o 0 0 1 (zeros 64) (λ _. 0) (λ _. 0) z.0 z.1) (λ k. (sym t.0 k, t.1 k)) first_fits;
         at_home = λ _. (x, refl, record { setup = refl; committed = omega arith; entries = λ i _. let z = zeros_zero 64 i in omega arith });
       }
     where
@@ -49,4 +50,6 @@ module _ {T : Type 0} (summary : T → Summary) where
 
   pub opens : (words : List ℕ) (x y : T) (slots : List (Option T)) → y ≡ x → slots ≡ Some x ∷ [] → words ≡ zeros 66
       → KeepsRule summary (summary y) (opening words slots (first_view (summary y)))
-  opens words x y slots same slot blank_words = subst (λ (p : T × List (Option T)). KeepsRule summary (summary p.0) (opening words p.1 (first_view (summary p.0)))) (λ k. (sym same k, sym slot k)) (starts words x blank_words)
+  opens words x y slots same slot blank_words =
+      subst (λ (p : T × List (Option T)). KeepsRule summary (summary p.0) (opening words p.1 (first_view (summary p.0)))) (λ k. (sym same k, sym slot k))
+      (starts words x blank_words)

@@ -1,5 +1,6 @@
 -- Lists of own counts: how many there are, and two of them made one.
-use Rattle.std.proofs.Common.{◌≡◌, ◌≢◌, ℕ, zero, suc, ◌+◌, ◌<◌, ◌≤◌, ◌⊎◌, inl, inr, cond, List, [], ◌∷◌, length, get_or, set, sym, refl, ap, ◌∙◌, arith, Option, Some, None, get_or-set_other}
+use Rattle.std.proofs.Common.{◌≡◌, ◌≢◌, ℕ, zero, suc, ◌+◌, ◌<◌, ◌≤◌, ◌⊎◌, inl, inr, cond, List, [], ◌∷◌, length, get_or, set, sym, refl, ap, ◌∙◌, arith, Option}
+use Rattle.std.proofs.Common.{Some, None, get_or-set_other}
 use Rattle.std.specs.Prelude.{sum, sum_by, count_by, is_some, unwrap_or, replicate, IsSome, IsSomeAnd}
 use Rattle.std.specs.Option.{option_or}
 use Rattle.std.proofs.lemmas.List.Sums.{sum_by-set, sum_by-cons}
@@ -105,7 +106,8 @@ count-merged (x ∷ xs) (y ∷ ys) e apart =
     let here : has (option_or x y) ≡ has x + has y = has-or x y (apart 0) in
     let a : count_by is_some (x ∷ xs) ≡ has x + count_by is_some xs = sum_by-cons has x xs in
     let b : count_by is_some (y ∷ ys) ≡ has y + count_by is_some ys = sum_by-cons has y ys in
-    let c : count_by is_some (option_or x y ∷ merged xs ys) ≡ has (option_or x y) + count_by is_some (merged xs ys) = sum_by-cons has (option_or x y) (merged xs ys) in
+    let c : count_by is_some (option_or x y ∷ merged xs ys) ≡ has (option_or x y) + count_by is_some (merged xs ys) =
+    sum_by-cons has (option_or x y) (merged xs ys) in
     omega arith
 
 abbrev pub blank : ℕ → List (Option ℕ)

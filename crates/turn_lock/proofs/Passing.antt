@@ -22,7 +22,8 @@ module _ {T : Type 0} (summary : T → Summary) (o : Summary) where
       let v : View = a.0 in
       let active : IsActive v.stage = subst IsActive (sym holding) tt in
       let ok = r.each_seat id v at active in
-      let mine : StageFits r.ticket r.serving r.counts r.holder id (Holding t counts) = subst (StageFits r.ticket r.serving r.counts r.holder id) holding ok.stage in
+      let mine : StageFits r.ticket r.serving r.counts r.holder id (Holding t counts) =
+      subst (StageFits r.ticket r.serving r.counts r.holder id) holding ok.stage in
       let id_is : r.holder r.serving ≡ id = ap r.holder (sym mine.0) ∙ mine.2 in
       let w : View = after_pass v in
       let served : ℕ = r.serving in
@@ -31,9 +32,11 @@ module _ {T : Type 0} (summary : T → Summary) (o : Summary) where
       let given = r.given in
       let total = r.total in
       let fits : (served + 1) % 2 ^ 64 ≡ served + 1 = omega arith in
-      let back : homes_after s.homes a.1 gives ≡ some (Some x) ∷ [] = ap (λ (c : List (ℕ × Option T)). put_back s.homes c) carried ∙ set_one s.homes (some (Some x)) (deep ∙ one) in
+      let back : homes_after s.homes a.1 gives ≡ some (Some x) ∷ [] =
+      ap (λ (c : List (ℕ × Option T)). put_back s.homes c) carried ∙ set_one s.homes (some (Some x)) (deep ∙ one) in
       let home : HasGrown o r.counts (summary x) = subst (λ (p : Summary × List ℕ). HasGrown p.0 p.1 (summary x)) (λ k. (ok.opening k, mine.3 k)) value in
-      let new : KeepsRule summary o record { words = r.ticket ∷ (served + 1) ∷ r.counts; homes = homes_after s.homes a.1 gives; views = set s.views id w } = record {
+      let new : KeepsRule summary o record { words = r.ticket ∷ (served + 1) ∷ r.counts; homes = homes_after s.homes a.1 gives; views = set s.views id w } =
+      record {
         ticket = r.ticket;
         serving = served + 1;
         counts = r.counts;
@@ -43,7 +46,8 @@ module _ {T : Type 0} (summary : T → Summary) (o : Summary) where
         words = refl;
         places = r.places;
         order = omega arith;
-        queue = λ k low high. queue_stays s.views id (r.holder k) k v w at (λ h. let e : t ≡ k = subst (λ (z : Stage). HasTicket z k) holding h in absurd (omega arith)) (r.queue k (omega arith) high);
+        queue = λ k low high. queue_stays s.views id (r.holder k) k v w at (λ h. let e : t ≡ k =
+            subst (λ (z : Stage). HasTicket z k) holding h in absurd (omega arith)) (r.queue k (omega arith) high);
         given = r.given;
         spoken = λ i low. speaks_stays s.views id (r.owner i) i v w at tt (λ n e. (n, e)) (r.spoken i low);
         unused = r.unused;
@@ -80,6 +84,7 @@ module _ {T : Type 0} (summary : T → Summary) (o : Summary) where
         w,
         gives,
         tt,
-        subst (λ (z : ℕ). KeepsRule summary o record { words = r.ticket ∷ z ∷ r.counts; homes = homes_after s.homes a.1 gives; views = set s.views id w }) (sym fits) new,
+        subst (λ (z : ℕ). KeepsRule summary o record { words = r.ticket ∷ z ∷ r.counts; homes = homes_after s.homes a.1 gives; views = set s.views id w })
+            (sym fits) new,
         refl,
       )

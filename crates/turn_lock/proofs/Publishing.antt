@@ -1,5 +1,6 @@
 -- Publishing a growth keeps the rule.
-use Rattle.std.proofs.Common.{◌≡◌, ℕ, suc, ◌+◌, ◌%◌, ◌^◌, ◌<◌, ◌≤◌, List, ◌∷◌, length, get_or, set, sym, refl, ap, ◌∙◌, subst, arith, Option, Some, None, length-set, get_or-set_other, get_or-set_same}
+use Rattle.std.proofs.Common.{◌≡◌, ℕ, suc, ◌+◌, ◌%◌, ◌^◌, ◌<◌, ◌≤◌, List, ◌∷◌, length, get_or, set, sym, refl, ap, ◌∙◌, subst, arith, Option, Some, None}
+use Rattle.std.proofs.Common.{length-set, get_or-set_other, get_or-set_same}
 use Rattle.std.specs.Prelude.{sum}
 use mathlib.Core.Logic.{dite}
 use mathlib.Core.Option.{none}
@@ -28,7 +29,8 @@ module _ {T : Type 0} (summary : T → Summary) (o : Summary) where
       let v : View = a.0 in
       let active : IsActive v.stage = subst IsActive (sym holding) tt in
       let ok = r.each_seat id v at active in
-      let mine : StageFits r.ticket r.serving r.counts r.holder id (Holding t counts) = subst (StageFits r.ticket r.serving r.counts r.holder id) holding ok.stage in
+      let mine : StageFits r.ticket r.serving r.counts r.holder id (Holding t counts) =
+      subst (StageFits r.ticket r.serving r.counts r.holder id) holding ok.stage in
       let c : ℕ = v.place in
       let speaks = ok.speaks in
       let spoken = ok.own c speaks.0 speaks.1 in
@@ -45,7 +47,8 @@ module _ {T : Type 0} (summary : T → Summary) (o : Summary) where
       let fits : (n + growth) % 2 ^ 64 ≡ n' = omega arith in
       let w : View = record v { stage = Holding t cs; own = set v.own c (Some n'); seen = v.opening.committed + sum cs } in
       let w_is : w ≡ after_publish v growth =
-      ap (λ (z : Stage). let l : List ℕ = set (counts_read z) c (get_or (counts_read z) c 0 + growth) in record v { stage = Holding (ticket_of z) l; own = set v.own c (Some (get_or (counts_read z) c 0 + growth)); seen = v.opening.committed + sum l })
+      ap (λ (z : Stage). let l : List ℕ = set (counts_read z) c (get_or (counts_read z) c 0 + growth) in
+      record v { stage = Holding (ticket_of z) l; own = set v.own c (Some (get_or (counts_read z) c 0 + growth)); seen = v.opening.committed + sum l })
       (sym (holding ∙ ap (λ (l : List ℕ). Holding t l) mine.3)) in
       let id_is : r.holder r.serving ≡ id = ap r.holder (sym mine.0) ∙ mine.2 in
       let own_inside : c < length v.own = let h = ok.places in omega arith in
@@ -62,7 +65,11 @@ module _ {T : Type 0} (summary : T → Summary) (o : Summary) where
         queue = λ k low high. queue_stays s.views id (r.holder k) k v w at (λ h. subst (λ (z : Stage). HasTicket z k) holding h) (r.queue k low high);
         given = r.given;
         spoken = λ i low. speaks_stays s.views id (r.owner i) i v w at tt
-            (λ k e. dite (ℕ_discrete i c) (λ same. (n', ap (λ (z : ℕ). get_or (set v.own c (Some n')) z None) same ∙ get_or-set_same v.own c (Some n') None own_inside)) (λ other. (k, get_or-set_other v.own c i (Some n') None other ∙ e)))
+            (λ k e. dite (ℕ_discrete i c) (λ same. (
+              n',
+              ap (λ (z : ℕ). get_or (set v.own c (Some n')) z None) same
+                  ∙ get_or-set_same v.own c (Some n') None own_inside,
+            )) (λ other. (k, get_or-set_other v.own c i (Some n') None other ∙ e)))
             (r.spoken i low);
         unused = λ i high. get_or-set_other r.counts c i n' 0 (λ e. omega arith) ∙ r.unused i high;
         total = let e = sum_at left_of s.views id v w at in let now = r.total in omega arith;
@@ -72,12 +79,19 @@ module _ {T : Type 0} (summary : T → Summary) (o : Summary) where
               stage = (mine.0, mine.1, mine.2, refl);
               places = length-set v.own c (Some n') ∙ ok.places;
               own = λ i k e. dite (ℕ_discrete i c)
-                  (λ same. let here : Some n' ≡ Some k = sym (ap (λ (z : ℕ). get_or (set v.own c (Some n')) z None) same ∙ get_or-set_same v.own c (Some n') None own_inside) ∙ e in
-                  (omega arith, ap r.owner same ∙ spoken.1, ap (λ (z : ℕ). get_or cs z 0) same ∙ (get_or-set_same r.counts c n' 0 c_inside ∙ same_Some n' k here)))
-                  (λ other. let old = ok.own i k (sym (get_or-set_other v.own c i (Some n') None other) ∙ e) in (old.0, old.1, get_or-set_other r.counts c i n' 0 other ∙ old.2));
+                  (λ same. let here : Some n' ≡ Some k =
+                  sym (ap (λ (z : ℕ). get_or (set v.own c (Some n')) z None) same ∙ get_or-set_same v.own c (Some n') None own_inside) ∙ e in (
+                    omega arith,
+                    ap r.owner same ∙ spoken.1,
+                    ap (λ (z : ℕ). get_or cs z 0) same
+                        ∙ (get_or-set_same r.counts c n' 0 c_inside ∙ same_Some n' k here),
+                  ))
+                  (λ other. let old = ok.own i k (sym (get_or-set_other v.own c i (Some n') None other) ∙ e) in
+                  (old.0, old.1, get_or-set_other r.counts c i n' 0 other ∙ old.2));
               speaks = (n', get_or-set_same v.own c (Some n') None own_inside);
               seen = let e : v.opening.committed ≡ o.committed = ap (λ (z : Summary). z.committed) ok.opening in omega arith;
-              left = let e = count-set v.own c speaks.0 n' speaks.1 in let b = ok.left in let k : ticket_count v.stage ≡ 1 = ap ticket_count holding in omega arith;
+              left = let e = count-set v.own c speaks.0 n' speaks.1 in let b = ok.left in let k : ticket_count v.stage ≡ 1 =
+                  ap ticket_count holding in omega arith;
               holds_last = λ k e. dite (ℕ_discrete 0 c)
                   (λ same. ok.holds_last speaks.0 (ap (λ (z : ℕ). get_or v.own z None) same ∙ speaks.1))
                   (λ other. ok.holds_last k (sym (get_or-set_other v.own c 0 (Some n') None other) ∙ e));
@@ -92,7 +106,8 @@ module _ {T : Type 0} (summary : T → Summary) (o : Summary) where
               opening = k.opening;
               stage = fits_after_publish r.ticket r.serving r.counts r.holder cs j d.stage (λ e. other (e ∙ id_is)) k.stage;
               places = k.places;
-              own = λ i l e. let old = k.own i l e in (old.0, old.1, get_or-set_other r.counts c i n' 0 (λ same. other (sym old.1 ∙ (ap r.owner same ∙ spoken.1))) ∙ old.2);
+              own = λ i l e. let old =
+                  k.own i l e in (old.0, old.1, get_or-set_other r.counts c i n' 0 (λ same. other (sym old.1 ∙ (ap r.owner same ∙ spoken.1))) ∙ old.2);
               speaks = k.speaks;
               seen = let b = k.seen in omega arith;
               left = k.left;
@@ -109,6 +124,7 @@ module _ {T : Type 0} (summary : T → Summary) (o : Summary) where
         w,
         keeps,
         tt,
-        subst (λ (z : ℕ). KeepsRule summary o record { words = r.ticket ∷ r.serving ∷ set r.counts c z; homes = s.homes; views = set s.views id w }) (sym fits) new,
+        subst (λ (z : ℕ). KeepsRule summary o record { words = r.ticket ∷ r.serving ∷ set r.counts c z; homes = s.homes; views = set s.views id w })
+            (sym fits) new,
         ap (λ (z : View). (z, a.1)) w_is,
       )

@@ -1,5 +1,6 @@
 -- What the steps of `give` say together.
-use Rattle.std.proofs.Common.{◌≡◌, ◌≢◌, ℕ, zero, suc, ◌+◌, ◌-◌, ◌%◌, ◌^◌, ◌<◌, ◌≤◌, List, [], ◌∷◌, length, get_or, set, sym, refl, ap, ◌∙◌, subst, arith, Option, Some, None, length-set, get_or-set_other, get_or-set_same}
+use Rattle.std.proofs.Common.{◌≡◌, ◌≢◌, ℕ, zero, suc, ◌+◌, ◌-◌, ◌%◌, ◌^◌, ◌<◌, ◌≤◌, List, [], ◌∷◌, length, get_or, set, sym, refl, ap, ◌∙◌, subst, arith}
+use Rattle.std.proofs.Common.{Option, Some, None, length-set, get_or-set_other, get_or-set_same}
 use Rattle.std.specs.Prelude.{sum, IsSomeAnd}
 use mathlib.Core.Logic.{dite}
 use mathlib.Core.Option.{none}
@@ -35,10 +36,13 @@ grown_more o counts x y c growth grown commits inside long is =
       setup = commits.setup ∙ grown.setup;
       committed = omega arith;
       entries = λ i lt. dite (ℕ_discrete i c)
-          (λ e. let a = commits.own in let b = grown.entries c inside in let d : get_or (set counts c (k + growth)) c 0 ≡ k + growth = get_or-set_same counts c (k + growth) 0 c_inside in
-          ap (λ (j : ℕ). get_or x.entries j 0) e ∙ (let h : get_or x.entries c 0 ≡ get_or o.entries c 0 + get_or (set counts c (k + growth)) c 0 = omega arith in h)
+          (λ e. let a = commits.own in let b = grown.entries c inside in let d : get_or (set counts c (k + growth)) c 0 ≡ k + growth =
+          get_or-set_same counts c (k + growth) 0 c_inside in
+          ap (λ (j : ℕ). get_or x.entries j 0) e ∙ (let h : get_or x.entries c 0
+          ≡ get_or o.entries c 0 + get_or (set counts c (k + growth)) c 0 = omega arith in h)
           ∙ ap (λ (j : ℕ). get_or o.entries j 0 + get_or (set counts c (k + growth)) j 0) (sym e))
-          (λ other. commits.others (suc i) (omega arith) (omega arith) (λ h. other (omega arith)) ∙ (grown.entries i lt ∙ ap (λ (z : ℕ). get_or o.entries i 0 + z) (sym (get_or-set_other counts c i (k + growth) 0 other))));
+          (λ other. commits.others (suc i) (omega arith) (omega arith) (λ h. other (omega arith))
+          ∙ (grown.entries i lt ∙ ap (λ (z : ℕ). get_or o.entries i 0 + z) (sym (get_or-set_other counts c i (k + growth) 0 other))));
     }
 
 -- the own count of the seat's own caller rose by the growth, and no other changed
@@ -47,7 +51,8 @@ own_rose : (s t : SeatFields) (p n growth : ℕ) → s.caller ≡ suc p → get_
     → IsSomeAnd (own_of s s.caller) (λ k. own_of t s.caller ≡ Some (k + growth))
 own_rose s t p n growth is e own =
     let inside = owned_inside s.own p n e in
-    let now : get_or t.own p None ≡ Some (n + growth) = ap (λ (l : List (Option ℕ)). get_or l p None) own ∙ get_or-set_same s.own p (Some (n + growth)) None inside in
+    let now : get_or t.own p None ≡ Some (n + growth) =
+    ap (λ (l : List (Option ℕ)). get_or l p None) own ∙ get_or-set_same s.own p (Some (n + growth)) None inside in
     subst (λ (c : ℕ). IsSomeAnd (own_of s c) (λ k. own_of t c ≡ Some (k + growth))) (sym is)
     (subst (λ (z : Option ℕ). IsSomeAnd z (λ k. get_or t.own p None ≡ Some (k + growth))) (sym e) now)
 
@@ -69,7 +74,9 @@ pub record IsGivenBack (turn : TurnFields) (x : Summary) (seat : SeatFields) : T
 pub given_back_as : (t u : TurnFields) (x : Summary) (s s' : SeatFields) → t ≡ u → s ≡ s' → IsGivenBack t x s → IsGivenBack u x s'
 given_back_as t u x s s' same_turn same_seat h = subst (λ (p : TurnFields × SeatFields). IsGivenBack p.0 x p.1) (λ k. (same_turn k, same_seat k)) h
 
-module _ {T : Type 0} (a : TableSeat T) (caller turns committed : ℕ) (own : List (Option ℕ)) (x y : Summary) (mirrors : MirrorsTurn a caller turns committed own y) (commits : Commits (suc a.0.place) y x) (growth : ℕ) (growth_is : growth ≡ x.committed - committed) where
+module _ {T : Type 0} (a : TableSeat T) (caller turns committed : ℕ) (own : List (Option ℕ)) (x y : Summary)
+    (mirrors : MirrorsTurn a caller turns committed own y) (commits : Commits (suc a.0.place) y x) (growth : ℕ)
+    (growth_is : growth ≡ x.committed - committed) where
   abbrev counts : List ℕ
   counts = counts_read a.0.stage
 
@@ -135,7 +142,8 @@ module _ {T : Type 0} (a : TableSeat T) (caller turns committed : ℕ) (own : Li
       let s : SeatFields = seat_of table a.0 in
       let t : SeatFields = seat_of table given_view in
       let n : ℕ = mirrors.speaks.0 in
-      let rose : t.own ≡ set s.own a.0.place (Some (n + (x.committed - y.committed))) = λ k. set a.0.own a.0.place (Some (mirrors.read_own a.0.place n mirrors.speaks.1 k + growth_of k)) in record {
+      let rose : t.own ≡ set s.own a.0.place (Some (n + (x.committed - y.committed))) =
+      λ k. set a.0.own a.0.place (Some (mirrors.read_own a.0.place n mirrors.speaks.1 k + growth_of k)) in record {
         lock = refl;
         caller = refl;
         turns = refl;
@@ -159,16 +167,20 @@ module _ {T : Type 0} (a : TableSeat T) (caller turns committed : ℕ) (own : Li
 
   published_seat : (z : T) (b d : TableSeat T) → b ≡ (a.0, (0, Some z) ∷ rest a.1) → d ≡ (after_publish b.0 growth, b.1)
       → d ≡ (after_publish a.0 growth, (0, Some z) ∷ [])
-  published_seat z b d hb hd = hd ∙ (ap (λ (u : TableSeat T). (after_publish u.0 growth, u.1)) hb ∙ ap (λ (l : List (ℕ × Option T)). (after_publish a.0 growth, (0, Some z) ∷ rest l)) mirrors.slot)
+  published_seat z b d hb hd =
+      hd ∙ (ap (λ (u : TableSeat T). (after_publish u.0 growth, u.1)) hb
+      ∙ ap (λ (l : List (ℕ × Option T)). (after_publish a.0 growth, (0, Some z) ∷ rest l)) mirrors.slot)
 
   pub pass_allowed : (summary : T → Summary) (o : Summary) (z : T) (slots id : ℕ) (b d : TableSeat T) → summary z ≡ x → slots ≡ 1
       → b ≡ (a.0, (0, Some z) ∷ rest a.1) → d ≡ (after_publish b.0 growth, b.1)
       → Allows (KeepsRule summary o) slots id d 1 (λ n. (n + 1) % 2 ^ 64) (PassesOn (step slots 1 1 0 none) d)
   pass_allowed summary o z slots id b d is one hb hd =
       let now = published_seat z b d hb hd in
-      passes_on summary o slots id (ticket_of a.0.stage) (grown_counts a.0 growth) z d one (ap (λ (u : TableSeat T). u.0.stage) now) (ap (λ (u : TableSeat T). u.1) now)
+      passes_on summary o slots id (ticket_of a.0.stage) (grown_counts a.0 growth) z d one (ap (λ (u : TableSeat T). u.0.stage) now)
+      (ap (λ (u : TableSeat T). u.1) now)
       (subst (λ (p : TableSeat T × Summary). HasGrown p.0.0.opening (grown_counts a.0 growth) p.1) (λ k. (sym now k, sym is k)) returned)
 
   pub given_views : (z : T) (b d e : TableSeat T) (views : List View) → b ≡ (a.0, (0, Some z) ∷ rest a.1)
       → d ≡ (after_publish b.0 growth, b.1) → e ≡ (after_pass d.0, rest d.1) → e.0 ∷ [] ≡ views → views ≡ given_view ∷ []
-  given_views z b d e views hb hd he hv = sym hv ∙ ap (λ (u : TableSeat T). u.0 ∷ []) (he ∙ ap (λ (u : TableSeat T). (after_pass u.0, rest u.1)) (published_seat z b d hb hd))
+  given_views z b d e views hb hd he hv = sym hv ∙ ap (λ (u : TableSeat T). u.0 ∷ [])
+      (he ∙ ap (λ (u : TableSeat T). (after_pass u.0, rest u.1)) (published_seat z b d hb hd))

@@ -15,7 +15,12 @@ pub queue_stays : (views : List View) (id k n : ℕ) (v w : View) → get_elem? 
     → (u : View) × (get_elem? views k ≡ some u) × HasTicket u.stage n
     → (u : View) × (get_elem? (set views id w) k ≡ some u) × HasTicket u.stage n
 queue_stays views id k n v w at keep q = dite (ℕ_discrete k id)
-    (λ e. (w, subst (λ (j : ℕ). get_elem? (set views id w) j ≡ some w) (sym e) (set_here views id w (inside views id v at)), keep (subst (λ (u : View). HasTicket u.stage n) (same_at views k id q.0 v e q.1 at) q.2)))
+    (λ e. (
+      w,
+      subst (λ (j : ℕ). get_elem? (set views id w) j ≡ some w) (sym e) (set_here views id w (inside views id v at)),
+      keep
+          (subst (λ (u : View). HasTicket u.stage n) (same_at views k id q.0 v e q.1 at) q.2),
+    ))
     (λ ne. (q.0, set_else views id k w ne ∙ q.1, q.2))
 
 -- where no seat holds the slot afterwards, none held it before

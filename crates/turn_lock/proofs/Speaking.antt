@@ -24,4 +24,5 @@ both_speak s t u last joined own one two =
     subst (λ (z : Option ℕ). IsSomeAnd z (λ k. (c : ℕ) → 1 ≤ c → c ≤ k → IsSome (own_of u c))) (sym last_is)
     (λ c least most. dite (ℕ_discrete c 1)
     (λ e. ap (λ (k : ℕ). is_some (own_of u k)) e ∙ (ap is_some (own 1) ∙ ap is_some (or_left (own_of s 1) (own_of t 1) first.0 first.1)))
-    (λ ne. let e : c ≡ 2 = omega arith in ap (λ (k : ℕ). is_some (own_of u k)) e ∙ (ap is_some (own 2) ∙ ap is_some (or_right (own_of s 2) (own_of t 2) second.0 second.1).1)))
+    (λ ne. let e : c ≡ 2 =
+    omega arith in ap (λ (k : ℕ). is_some (own_of u k)) e ∙ (ap is_some (own 2) ∙ ap is_some (or_right (own_of s 2) (own_of t 2) second.0 second.1).1)))

@@ -1,5 +1,6 @@
 -- Splitting a seat keeps the rule.
-use Rattle.std.proofs.Common.{◌≡◌, ℕ, suc, ◌+◌, ◌<◌, ⊎_elim, List, [], ◌∷◌, ◌++◌, length, get_or, set, sym, refl, ap, ◌∙◌, subst, arith, Some, None, length-set, get_or-set_same}
+use Rattle.std.proofs.Common.{◌≡◌, ℕ, suc, ◌+◌, ◌<◌, ⊎_elim, List, [], ◌∷◌, ◌++◌, length, get_or, set, sym, refl, ap, ◌∙◌, subst, arith, Some, None, length-set}
+use Rattle.std.proofs.Common.{get_or-set_same}
 use Rattle.std.specs.Prelude.{count_by, is_some, unwrap_or, Option}
 use mathlib.Core.Logic.{dite}
 use mathlib.Core.Option.{some}
@@ -87,17 +88,24 @@ module _ {T : Type 0} (summary : T → Summary) (o : Summary) where
         words = r.words;
         places = r.places;
         order = r.order;
-        queue = λ k low high. let q = queue_stays s.views id (r.holder k) k v l at (λ h. h) (r.queue k low high) in (q.0, at_longer views (w ∷ []) (r.holder k) q.0 q.1, q.2);
+        queue = λ k low high. let q = queue_stays s.views id (r.holder k) k v l at (λ h. h) (r.queue k low high) in
+            (q.0, at_longer views (w ∷ []) (r.holder k) q.0 q.1, q.2);
         given = (omega arith, omega arith);
         spoken = λ c low. dite (ℕ_discrete c r.last)
-            (λ e. subst (λ (j : ℕ). Speaks (views ++ w ∷ []) j c) (sym (put_here r.owner r.last new c e))
-            (w, at_last views w new (length-set s.views id l), tt, (0, ap (λ (k : ℕ). get_or (only i) k None) (e ∙ sym last_is) ∙ get_or-set_same (blank 64) i (Some 0) None room)))
+            (λ e. subst (λ (j : ℕ). Speaks (views ++ w ∷ []) j c) (sym (put_here r.owner r.last new c e)) (
+              w,
+              at_last views w new (length-set s.views id l),
+              tt,
+              (0, ap (λ (k : ℕ). get_or (only i) k None) (e ∙ sym last_is) ∙ get_or-set_same (blank 64) i (Some 0) None room),
+            ))
             (λ ne. subst (λ (j : ℕ). Speaks (views ++ w ∷ []) j c) (sym (put_else r.owner r.last new c ne))
-            (let q = speaks_stays s.views id (r.owner c) c v l at active (λ k e. (k, e)) (r.spoken c (omega arith)) in (q.0, at_longer views (w ∷ []) (r.owner c) q.0 q.1, q.2, q.3)));
+            (let q = speaks_stays s.views id (r.owner c) c v l at active (λ k e. (k, e)) (r.spoken c (omega arith)) in
+            (q.0, at_longer views (w ∷ []) (r.owner c) q.0 q.1, q.2, q.3)));
         unused = λ c high. r.unused c (omega arith);
         total = let a = sum_at left_of s.views id v l at in let b = sum_by_push left_of views w in let now = r.total in omega arith;
         each_seat = λ j d e lives. ⊎_elim (λ there. old_ones j d there lives)
-            (λ (t : (j ≡ length views) × (w ≡ d)). subst (λ (x : ℕ × View). SeatFits o r.ticket r.serving (suc r.last) r.counts r.holder owner x.0 x.1) (λ k. (sym (t.0 ∙ length-set s.views id l) k, t.1 k)) new_fits)
+            (λ (t : (j ≡ length views) × (w ≡ d)). subst (λ (x : ℕ × View). SeatFits o r.ticket r.serving (suc r.last) r.counts r.holder owner x.0 x.1)
+            (λ k. (sym (t.0 ∙ length-set s.views id l) k, t.1 k)) new_fits)
             (snoc_at views w d j e);
         at_home = λ free. r.at_home (none_held s.views id v l at (λ h. h) (λ j u there. free j u (at_longer views (w ∷ []) j u there)));
       }

@@ -25,10 +25,12 @@ module _ {T : Type 0} (summary : T → Summary) (o : Summary) where
       let v : View = a.0 in
       let active : IsActive v.stage = subst IsActive (sym called) tt in
       let ok = r.each_seat id v at active in
-      let mine : StageFits r.ticket r.serving r.counts r.holder id (Called t counts) = subst (StageFits r.ticket r.serving r.counts r.holder id) called ok.stage in
+      let mine : StageFits r.ticket r.serving r.counts r.holder id (Called t counts) =
+      subst (StageFits r.ticket r.serving r.counts r.holder id) called ok.stage in
       let whole : counts ≡ r.counts = mine.3 ∙ (ap (λ (k : ℕ). take k r.counts) (all ∙ sym r.places) ∙ take-length r.counts) in
       let free : NoneHolds s.views = λ j u there holding.
-      let j_is : r.holder r.serving ≡ j = holding_served r.ticket r.serving r.counts r.holder j u.stage (r.each_seat j u there (active_holding u.stage holding)).stage holding in
+      let j_is : r.holder r.serving ≡ j =
+      holding_served r.ticket r.serving r.counts r.holder j u.stage (r.each_seat j u there (active_holding u.stage holding)).stage holding in
       let id_is : r.holder r.serving ≡ id = ap r.holder (sym mine.0) ∙ mine.2 in
       let same : u ≡ v = same_at s.views j id u v (sym j_is ∙ id_is) there at in
       subst IsHolding (ap (λ (z : View). z.stage) same ∙ called) holding in
@@ -36,8 +38,10 @@ module _ {T : Type 0} (summary : T → Summary) (o : Summary) where
       let x : T = home.0 in
       let w : View = at_stage v (Holding t counts) in
       let present : counts_read v.stage ≡ r.counts = ap counts_read called ∙ whole in
-      let value : HasGrown v.opening (counts_read v.stage) (summary x) = subst (λ (p : Summary × List ℕ). HasGrown p.0 p.1 (summary x)) (λ k. (sym ok.opening k, sym present k)) home.2 in
-      let new = restages_with summary o s r id v (Holding t counts) (set s.homes 0 none) at active tt (ap ticket_count (sym called)) (λ k h. subst (λ (z : Stage). HasTicket z k) called h) (mine.0, mine.1, mine.2, whole)
+      let value : HasGrown v.opening (counts_read v.stage) (summary x) =
+      subst (λ (p : Summary × List ℕ). HasGrown p.0 p.1 (summary x)) (λ k. (sym ok.opening k, sym present k)) home.2 in
+      let new = restages_with summary o s r id v (Holding t counts) (set s.homes 0 none) at active tt (ap ticket_count (sym called))
+      (λ k h. subst (λ (z : Stage). HasTicket z k) called h) (mine.0, mine.1, mine.2, whole)
       (λ none_holds. absurd (none_holds id w (set_here s.views id w (inside s.views id v at)) tt)) in
       let seen : v.seen ≤ (summary x).committed = let a = ok.seen in let b = home.2.committed in omega arith in
       let Goal : List ℕ → Type 0 = λ ws. (w : View) × (y : Act (Option T)) × Valid s.homes a.1 y

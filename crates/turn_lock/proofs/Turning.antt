@@ -58,7 +58,8 @@ module _ {T : Type 0} (summary : T → Summary) where
       → SlotTaken summary d e x → length v.own ≡ 64 → IsTakenBy (seat_of table v) (summary x)
   taken_by table v n counts d e x hd took places =
       let grown : HasGrown v.opening counts (summary x) = subst (λ (z : TableSeat T). HasGrown z.0.opening (counts_read z.0.stage) (summary x)) hd took.value in
-      let own : (i k : ℕ) → own_at v i ≡ Some k → get_or counts i 0 ≡ k = subst (λ (z : TableSeat T). (i k : ℕ) → own_at z.0 i ≡ Some k → get_or (counts_read z.0.stage) i 0 ≡ k) hd took.own in
+      let own : (i k : ℕ) → own_at v i ≡ Some k → get_or counts i 0 ≡ k =
+      subst (λ (z : TableSeat T). (i k : ℕ) → own_at z.0 i ≡ Some k → get_or (counts_read z.0.stage) i 0 ≡ k) hd took.own in
       record {
         setup = grown.setup;
         seen = subst (λ (z : TableSeat T). z.0.seen ≤ (summary x).committed) hd took.seen;
@@ -92,8 +93,10 @@ module _ {T : Type 0} (summary : T → Summary) where
   mirrors_turn views caller turns seen committed own n counts x value d e f ok room all hd took same hf is =
       let v : View = view_of views in
       let now = holding_seat v n counts d e f x hd took hf in
-      let grown : HasGrown v.opening counts (summary value) = subst (λ (p : TableSeat T × T). HasGrown p.0.0.opening (counts_read p.0.0.stage) (summary p.1)) (λ k. (hd k, same k)) took.value in
-      let read_own : (i k : ℕ) → own_at v i ≡ Some k → get_or counts i 0 ≡ k = subst (λ (z : TableSeat T). (i k : ℕ) → own_at z.0 i ≡ Some k → get_or (counts_read z.0.stage) i 0 ≡ k) hd took.own in
+      let grown : HasGrown v.opening counts (summary value) =
+      subst (λ (p : TableSeat T × T). HasGrown p.0.0.opening (counts_read p.0.0.stage) (summary p.1)) (λ k. (hd k, same k)) took.value in
+      let read_own : (i k : ℕ) → own_at v i ≡ Some k → get_or counts i 0 ≡ k =
+      subst (λ (z : TableSeat T). (i k : ℕ) → own_at z.0 i ≡ Some k → get_or (counts_read z.0.stage) i 0 ≡ k) hd took.own in
       let mirrors : MirrorsTurn (holding_view v n counts, (0, None) ∷ []) caller turns committed own (summary value) = record {
         holding = refl;
         slot = refl;

@@ -15,7 +15,14 @@ view_of (v ∷ views) = v
 
 -- what contracts see of the seat with this view, at the table with this id
 abbrev pub seat_of : TableId → View → SeatFields
-seat_of id v = record { lock = record { id = id; opening = v.opening }; caller = suc v.place; turns = v.turns; seen = v.seen; last_caller = v.last_caller; own = v.own }
+seat_of id v = record {
+  lock = record { id = id; opening = v.opening };
+  caller = suc v.place;
+  turns = v.turns;
+  seen = v.seen;
+  last_caller = v.last_caller;
+  own = v.own;
+}
 
 -- the fields of a seat mirror its view, and it is idle
 pub record MirrorsSeat (views : List View) (caller turns seen : ℕ) (own : List (Option ℕ)) : Type 0 where
@@ -30,7 +37,8 @@ pub record MirrorsSeat (views : List View) (caller turns seen : ℕ) (own : List
 
 -- The fields of a turn mirror the view of its seat, which holds the empty slot and has read all counts. The value that
 -- was taken has grown by these counts.
-pub record MirrorsTurn {T : Type 0} (me : TableSeat T) (caller turns committed : ℕ) (own : List (Option ℕ)) (taken : Summary) : Type 0 where
+pub record MirrorsTurn {T : Type 0} (me : TableSeat T) (caller turns committed : ℕ) (own : List (Option ℕ))
+    (taken : Summary) : Type 0 where
   pub holding : me.0.stage ≡ Holding (ticket_of me.0.stage) (counts_read me.0.stage)
   pub slot : me.1 ≡ (0, None) ∷ []
   pub caller_is : caller ≡ suc me.0.place

@@ -1,5 +1,6 @@
 -- The rule of the lock, which holds between any two steps on its table.
-use Rattle.std.specs.Prelude.{◌≡◌, ℕ, ◌+◌, ◌*◌, ◌<◌, ◌≤◌, List, [], ◌∷◌, length, take, sum, sum_by, count_by, slice_index, Option, Some, is_some}
+use Rattle.std.specs.Prelude.{◌≡◌, ℕ, ◌+◌, ◌*◌, ◌<◌, ◌≤◌, List, [], ◌∷◌, length, take, sum, sum_by, count_by}
+use Rattle.std.specs.Prelude.{slice_index, Option, Some, is_some}
 use mathlib.Core.Option.{some}
 use lib.ListN.{get_elem?}
 use Rattle.atomic_table.specs.Table.{State}
@@ -22,7 +23,8 @@ module _ (ticket serving : ℕ) (counts : List ℕ) (holder : ℕ → ℕ) (seat
   StageFits (Holding t read) = (t ≡ serving) × (t < ticket) × (holder t ≡ seat) × (read ≡ counts)
 
 -- what the rule says of a seat that was not joined into another
-pub record SeatFits (start : Summary) (ticket serving last : ℕ) (counts : List ℕ) (holder owner : ℕ → ℕ) (seat : ℕ) (v : View) : Type 0 where
+pub record SeatFits (start : Summary) (ticket serving last : ℕ) (counts : List ℕ) (holder owner : ℕ → ℕ) (seat : ℕ)
+    (v : View) : Type 0 where
   pub opening : v.opening ≡ start
   pub stage : StageFits ticket serving counts holder seat v.stage
   -- a caller that it speaks for has a number that was given out and no other seat, and its own count is the present one
@@ -38,7 +40,8 @@ pub record SeatFits (start : Summary) (ticket serving last : ℕ) (counts : List
 
 -- the seat speaks for the caller at place i
 abbrev pub Speaks : List View → ℕ → ℕ → Type 0
-Speaks views seat i = (v : View) × (get_elem? views seat ≡ some v) × IsActive v.stage × ((n : ℕ) × (own_at v i ≡ Some n))
+Speaks views seat i = (v : View) × (get_elem? views seat ≡ some v) × IsActive v.stage
+    × ((n : ℕ) × (own_at v i ≡ Some n))
 
 abbrev pub NoneHolds : List View → Type 0
 NoneHolds views = (seat : ℕ) (v : View) → get_elem? views seat ≡ some v → ¬ IsHolding v.stage
@@ -57,7 +60,8 @@ pub record KeepsRule {T : Type 0} (summary : T → Summary) (opening : Summary) 
   pub places : length counts ≡ 64
   -- each ticket from serving to ticket - 1 is held
   pub order : serving ≤ ticket
-  pub queue : (t : ℕ) → serving ≤ t → t < ticket → (v : View) × (get_elem? s.views (holder t) ≡ some v) × HasTicket v.stage t
+  pub queue : (t : ℕ) → serving ≤ t → t < ticket
+      → (v : View) × (get_elem? s.views (holder t) ≡ some v) × HasTicket v.stage t
   -- each number given out is spoken for, and the count of any other is 0
   pub given : (1 ≤ last) × (last ≤ 64)
   pub spoken : (i : ℕ) → i < last → Speaks s.views (owner i) i

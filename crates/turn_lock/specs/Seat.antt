@@ -1,5 +1,6 @@
 -- A lock, its seats and its turns, as contracts see them.
-use Rattle.std.specs.Prelude.{ℕ, ◌≡◌, ◌-◌, ◌≤◌, List, ◌∷◌, replicate, sum_by, unwrap_or, Option, Some, None, IsSome, IsSomeAnd, slice_index_or, slice_set}
+use Rattle.std.specs.Prelude.{ℕ, ◌≡◌, ◌-◌, ◌≤◌, List, ◌∷◌, replicate, sum_by, unwrap_or, Option, Some, None, IsSome}
+use Rattle.std.specs.Prelude.{IsSomeAnd, slice_index_or, slice_set}
 use Rattle.atomic_table.specs.Seated.{TableId}
 use Rattle.turn_lock.specs.declared.view.Summary.{Summary}
 
@@ -49,8 +50,22 @@ only place = slice_set (replicate 64 None) place (Some 0)
 
 -- the seat that a new lock comes with
 abbrev pub first_seat : LockFields → SeatFields
-first_seat lock = record { lock = lock; caller = 1; turns = 0; seen = lock.opening.committed; last_caller = Some 1; own = only 0 }
+first_seat lock = record {
+  lock = lock;
+  caller = 1;
+  turns = 0;
+  seen = lock.opening.committed;
+  last_caller = Some 1;
+  own = only 0;
+}
 
 -- the seat that is split off for a caller
 abbrev pub new_seat : SeatFields → ℕ → SeatFields
-new_seat from caller = record { lock = from.lock; caller = caller; turns = 0; seen = from.seen; last_caller = None; own = only (caller - 1) }
+new_seat from caller = record {
+  lock = from.lock;
+  caller = caller;
+  turns = 0;
+  seen = from.seen;
+  last_caller = None;
+  own = only (caller - 1);
+}

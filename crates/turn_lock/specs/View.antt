@@ -1,5 +1,6 @@
 -- The view of a seat, and how each kind of step changes it. A place is a caller's number less one.
-use Rattle.std.specs.Prelude.{◌≡◌, ℕ, suc, ◌+◌, ◌-◌, ◌^◌, List, [], ◌∷◌, ◌++◌, sum, unwrap_or, max, Option, Some, None, slice_index, slice_index_or, slice_set}
+use Rattle.std.specs.Prelude.{◌≡◌, ℕ, suc, ◌+◌, ◌-◌, ◌^◌, List, [], ◌∷◌, ◌++◌, sum, unwrap_or, max, Option, Some, None}
+use Rattle.std.specs.Prelude.{slice_index, slice_index_or, slice_set}
 use Rattle.std.specs.Option.{option_or}
 use Rattle.tierra_model.specs.Setups.{setup_for}
 use Rattle.turn_lock.specs.declared.view.Summary.{Summary}
@@ -78,7 +79,16 @@ at_stage v stage = record v { stage = stage }
 
 -- the view of the seat that a new lock comes with
 abbrev pub first_view : Summary → View
-first_view opening = record { opening = opening; stage = Idle; place = 0; seen = opening.committed; turns = 0; left = most_tickets; last_caller = Some 1; own = only 0 }
+first_view opening = record {
+  opening = opening;
+  stage = Idle;
+  place = 0;
+  seen = opening.committed;
+  turns = 0;
+  left = most_tickets;
+  last_caller = Some 1;
+  own = only 0;
+}
 
 -- a ticket is drawn
 abbrev pub after_draw : View → ℕ → View
@@ -122,7 +132,16 @@ after_split v = record v { last_caller = Some (suc (last_of v)) }
 
 -- the view of the seat for that caller
 abbrev pub new_view : View → View
-new_view v = record { opening = v.opening; stage = Idle; place = last_of v; seen = v.seen; turns = 0; left = most_tickets; last_caller = None; own = only (last_of v) }
+new_view v = record {
+  opening = v.opening;
+  stage = Idle;
+  place = last_of v;
+  seen = v.seen;
+  turns = 0;
+  left = most_tickets;
+  last_caller = None;
+  own = only (last_of v);
+}
 
 -- at each place what the first list has there, or else what the second has
 abbrev pub merged : List (Option ℕ) → List (Option ℕ) → List (Option ℕ)
@@ -132,7 +151,13 @@ merged (x ∷ xs) (y ∷ ys) = option_or x y ∷ merged xs ys
 
 -- the second seat is joined into the first
 abbrev pub after_join : View → View → View
-after_join v w = record v { seen = max v.seen w.seen; turns = v.turns + w.turns; left = v.left + w.left; last_caller = option_or v.last_caller w.last_caller; own = merged v.own w.own }
+after_join v w = record v {
+  seen = max v.seen w.seen;
+  turns = v.turns + w.turns;
+  left = v.left + w.left;
+  last_caller = option_or v.last_caller w.last_caller;
+  own = merged v.own w.own;
+}
 
 -- the summary of no value
 pub no_summary : Summary
@@ -140,4 +165,13 @@ no_summary = record { setup = (setup_for [], 0); committed = 0; entries = [] }
 
 -- the view of a seat that was joined into another
 abbrev pub spent : View
-spent = record { opening = no_summary; stage = Spent; place = 0; seen = 0; turns = 0; left = 0; last_caller = None; own = [] }
+spent = record {
+  opening = no_summary;
+  stage = Spent;
+  place = 0;
+  seen = 0;
+  turns = 0;
+  left = 0;
+  last_caller = None;
+  own = [];
+}

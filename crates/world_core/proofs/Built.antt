@@ -108,7 +108,8 @@ pub left-next : (n : ℕ) (bs : List Block) (k : ℕ) (d : Block) → k < length
     → runs_of n (λ p. is_in_some (left_by n (take k bs)) p && not (is_in (get_or bs k d) p)) ≡ left_by n (take (k + 1) bs)
 left-next n bs k d lt =
     let owned : (p : ℕ) → (nat_lt 0 (covers (take k bs) p) || is_in (get_or bs k d) p) ≡ nat_lt 0 (covers (take (k + 1) bs) p)
-    = λ p. sym (more_owned (is_in (get_or bs k d) p) (covers (take k bs) p) (covers (take (k + 1) bs) p) (sum-more (λ (b : Block). one_if (is_in b p)) bs k d lt)) in
+    = λ p. sym (more_owned (is_in (get_or bs k d) p) (covers (take k bs) p) (covers (take (k + 1) bs) p)
+    (sum-more (λ (b : Block). one_if (is_in b p)) bs k d lt)) in
     taken-runs_of n (λ p. nat_lt 0 (covers (take k bs) p)) (get_or bs k d) ∙ (λ i. runs_of n (λ p. not (owned p i)))
 
 pub left-free : (n : ℕ) (living : List Creature) → left_by n (blocks_in living) ≡ runs_of n (λ p. not (is_owned living p))

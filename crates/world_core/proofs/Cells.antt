@@ -1,5 +1,6 @@
 -- Cells copied out of a soup, and a code put into it, one cell after another.
-use Rattle.std.proofs.Common.{◌≡◌, ℕ, suc, ◌+◌, ◌-◌, ◌<◌, ◌≤◌, List, [], ◌∷◌, ◌++◌, refl, sym, ◌∙◌, ap, arith, append_assoc, drop, drop-cons, get_or, length, length-append, set, take}
+use Rattle.std.proofs.Common.{◌≡◌, ℕ, suc, ◌+◌, ◌-◌, ◌<◌, ◌≤◌, List, [], ◌∷◌, ◌++◌, refl, sym, ◌∙◌, ap, arith, append_assoc, drop, drop-cons, get_or, length}
+use Rattle.std.proofs.Common.{length-append, set, take}
 use Rattle.std.proofs.Math.Seq.{set-append_seam}
 use Rattle.std.proofs.lemmas.List.{get_or-drop, length-drop, length-take, take-append-drop, take_more}
 use Rattle.std.specs.Prelude.{slice_range}
@@ -23,12 +24,20 @@ copied-none xs from = ap (λ (k : ℕ). take k (drop from xs)) (none from)
 
 pub length-overwrite : (xs : List ℕ) (at : ℕ) (ys : List ℕ) → at + length ys ≤ length xs → length (overwrite xs at ys) ≡ length xs
 length-overwrite xs at ys h =
-    omega (arith, length-append (take at xs ++ ys) (drop (at + length ys) xs), length-append (take at xs) ys, length-take at xs, length-drop (at + length ys) xs)
+    omega (
+      arith,
+      length-append (take at xs ++ ys) (drop (at + length ys) xs),
+      length-append (take at xs) ys,
+      length-take at xs,
+      length-drop (at + length ys)
+          xs,
+    )
 
 -- nothing is put in
 pub overwrite-none : (xs : List ℕ) (at : ℕ) → overwrite xs at [] ≡ xs
 overwrite-none xs at =
-    ap (λ (l : List ℕ). l ++ drop (at + 0) xs) (append_nil (take at xs)) ∙ ap (λ (k : ℕ). take at xs ++ drop k xs) (let e : at + 0 ≡ at = omega arith in e) ∙ take-append-drop at xs
+    ap (λ (l : List ℕ). l ++ drop (at + 0) xs) (append_nil (take at xs)) ∙ ap (λ (k : ℕ). take at xs ++ drop k xs) (let e : at + 0 ≡ at = omega arith in
+    e) ∙ take-append-drop at xs
   where
     append_nil : (l : List ℕ) → l ++ [] ≡ l
     append_nil [] = refl
@@ -49,6 +58,7 @@ overwrite-more xs at ys i h l =
     ∙ ap (λ (k : ℕ). set (done ++ get_or xs (at + i) 0 ∷ drop (suc (at + i)) xs) k y) (sym seam)
     ∙ set-append_seam done (get_or xs (at + i) 0) (drop (suc (at + i)) xs) y
     ∙ sym (append_assoc (done) (y ∷ []) (drop (suc (at + i)) xs))
-    ∙ ap (λ (d : List ℕ). d ++ drop (suc (at + i)) xs) (append_assoc (take at xs) (take i ys) (y ∷ []) ∙ ap (λ (t : List ℕ). take at xs ++ t) (sym (take_more ys i 0 h)))
+    ∙ ap (λ (d : List ℕ). d ++ drop (suc (at + i)) xs) (append_assoc (take at xs) (take i ys) (y ∷ [])
+    ∙ ap (λ (t : List ℕ). take at xs ++ t) (sym (take_more ys i 0 h)))
     ∙ ap (λ (k : ℕ). take at xs ++ take (i + 1) ys ++ drop k xs) (let e : suc (at + i) ≡ at + (i + 1) = omega arith in e)
     ∙ ap (λ (k : ℕ). take at xs ++ take (i + 1) ys ++ drop (at + k) xs) (sym longer)

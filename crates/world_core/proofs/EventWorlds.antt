@@ -24,8 +24,10 @@ after-err w c r e =
     let d : Creature = record_after event.Err (front w) in
     let same : front (put d w) ≡ d = front-put d w (has_front w r) (front-id w (has_front w r)) in
     ap (with_reaper (put d w))
-    (error_move-cong (has_id (front (put d w))) (has_id d) (errors_in (put d w)) (errors_in (put d w)) (λ id. ap (λ (x : Creature). id == x.id) same) (λ id. refl) w.reaper)
-    ∙ ap (λ (x : Creature). with_lists w (with_record x w.living) w.slicer (error_move (λ id. id == x.id) (λ id. (one_of (with_record x w.living) id).errors) w.reaper)) (sym e)
+    (error_move-cong (has_id (front (put d w))) (has_id d) (errors_in (put d w)) (errors_in (put d w)) (λ id. ap (λ (x : Creature). id == x.id) same)
+    (λ id. refl) w.reaper)
+    ∙ ap (λ (x : Creature). with_lists w (with_record x w.living) w.slicer
+    (error_move (λ id. id == x.id) (λ id. (one_of (with_record x w.living) id).errors) w.reaper)) (sym e)
 
 pub after-good : (w : World) (c : Creature) → c ≡ front w
     → apply_event w event.Good ≡ with_lists w w.living w.slicer (good_move (λ id. id == c.id) (λ id. (one_of w.living id).errors) w.reaper)
@@ -65,7 +67,8 @@ pub after-divide : (w : World) (ran moved : ℕ) (b : Block) → (front w).daugh
     })
 unfolding apply_event
 after-divide w ran moved b e =
-    ap (λ (d : Option Block). put (record_after (event.Divide ran moved) (front w)) (with_birth (genotypes_at_birth (front w) ran moved w.genotypes) d (front w).genotype w)) e
+    ap (λ (d : Option Block). put (record_after (event.Divide ran moved) (front w))
+    (with_birth (genotypes_at_birth (front w) ran moved w.genotypes) d (front w).genotype w)) e
 
 -- a birth, from what its parts give
 pub born : (w : World) (ran moved : ℕ) (b : Block) (x nb : Creature) (gs hs : List Genotype) (k save_at : ℕ) (code : List ℕ) (saved : List Saving)
@@ -91,7 +94,8 @@ born w ran moved b x nb gs hs k save_at code saved ex ed ec eg eh ek ea es en =
     let all : with_individual gs code (Some x.genotype) q
     ≡ with_individual (genotypes_at_birth (front w) ran moved w.genotypes) (slice_range w.soup b.at (b.at + b.size)) (Some (front w).genotype) q
     = (λ i. with_individual (known i) (ec i) (Some (ex i).genotype) q) in
-    let number : k ≡ (with_individual (genotypes_at_birth (front w) ran moved w.genotypes) (slice_range w.soup b.at (b.at + b.size)) (Some (front w).genotype) q).1
+    let number : k ≡ (with_individual (genotypes_at_birth (front w) ran moved w.genotypes) (slice_range w.soup b.at (b.at + b.size)) (Some (front w).genotype)
+    q).1
     = ek ∙ ap (λ (r : List Genotype × ℕ). r.1) all in
     let genotypes = eh ∙ ap (λ (r : List Genotype × ℕ). r.0) all in
     let savings = es ∙ (λ i. savings_after (ea i) (all i).0 (number i) q w.saved) in

@@ -18,7 +18,8 @@ name-in_range w k s h =
     let code = s.written k no_genotype h in
     (code.0, code.1, omega (arith, number_before_le (length (genotype_at w.genotypes k).code) w.genotypes k, s.genotype_count, s.next_birth, s.quanta))
 
-parent-in_range : (w : World) (k : ℕ) (o : Option ℕ) → IsSound w → k < length w.genotypes → IfSome o (λ p. p < k) → IfSome (option_map (name_of w.genotypes) o) IsName
+parent-in_range : (w : World) (k : ℕ) (o : Option ℕ) → IsSound w → k < length w.genotypes → IfSome o (λ p. p < k)
+    → IfSome (option_map (name_of w.genotypes) o) IsName
 parent-in_range w k None s h b = tt
 parent-in_range w k (Some p) s h b = name-in_range w p s (omega arith)
 

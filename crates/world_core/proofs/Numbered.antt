@@ -38,6 +38,7 @@ TotalBelow t g = g.total < t
 
 pub totals-with_effort : (t k bred : ℕ) (e : Effort) (gs : List Genotype) → All (TotalBelow t) gs → All (TotalBelow t) (with_effort_of k bred e gs)
 totals-with_effort t k bred e [] h = h
-totals-with_effort t zero bred e (g ∷ gs) h = All-cons (TotalBelow t) (with_effort bred e g) gs (All-head (TotalBelow t) g gs h) (All-tail (TotalBelow t) g gs h)
+totals-with_effort t zero bred e (g ∷ gs) h = All-cons (TotalBelow t) (with_effort bred e g) gs (All-head (TotalBelow t) g gs h)
+    (All-tail (TotalBelow t) g gs h)
 totals-with_effort t (suc k) bred e (g ∷ gs) h =
     All-cons (TotalBelow t) g (with_effort_of k bred e gs) (All-head (TotalBelow t) g gs h) (totals-with_effort t k bred e gs (All-tail (TotalBelow t) g gs h))

@@ -36,7 +36,8 @@ pub free-taken : (n : ℕ) (xs ys : List Creature) (b : Block) → ((p : ℕ) �
     → runs_of n (λ p. is_in_some (free_cells n xs) p && not (is_in b p)) ≡ free_cells n ys
 free-taken n xs ys b e =
     let owned : (p : ℕ) → (is_owned xs p || is_in b p) ≡ is_owned ys p
-    = λ p. ap (λ (o : Bool). o || is_in b p) (is_owned-owners xs p) ∙ sym (more_owned (is_in b p) (owners xs p) (owners ys p) (e p)) ∙ sym (is_owned-owners ys p) in
+    = λ p. ap (λ (o : Bool). o || is_in b p) (is_owned-owners xs p) ∙ sym (more_owned (is_in b p) (owners xs p) (owners ys p) (e p))
+    ∙ sym (is_owned-owners ys p) in
     taken-runs_of n (λ p. is_owned xs p) b ∙ (λ i. runs_of n (λ p. not (owned p i)))
 
 -- ---- a block is given back
@@ -49,7 +50,8 @@ pub free-given_back : (n : ℕ) (xs ys : List Creature) (b : Block) → ((p : �
     → runs_of n (λ p. is_in_some (free_cells n xs) p || is_in b p) ≡ free_cells n ys
 free-given_back n xs ys b e one =
     let owned : (p : ℕ) → (is_owned xs p && not (is_in b p)) ≡ is_owned ys p
-    = λ p. ap (λ (o : Bool). o && not (is_in b p)) (is_owned-owners xs p) ∙ sym (less_owned (is_in b p) (owners ys p) (owners xs p) (e p) (one p)) ∙ sym (is_owned-owners ys p) in
+    = λ p. ap (λ (o : Bool). o && not (is_in b p)) (is_owned-owners xs p) ∙ sym (less_owned (is_in b p) (owners ys p) (owners xs p) (e p) (one p))
+    ∙ sym (is_owned-owners ys p) in
     freed-runs_of n (λ p. is_owned xs p) b ∙ (λ i. runs_of n (λ p. not (owned p i)))
 
 -- ---- the blocks of a creature are given back
@@ -92,7 +94,8 @@ in_block n b p k h = below_end n b p k.2 h
 -- the runs of a list of free runs are that list
 pub runs-again : (n : ℕ) (free : List Block) (test : ℕ → Bool) → free ≡ runs_of n test → free ≡ runs_of n (λ p. is_in_some free p)
 runs-again n free test e =
-    e ∙ sym (runs_of-alike n (λ p. is_in_some (runs_of n test) p) test (λ q l. runs_of_in n test q l)) ∙ ap (λ (f : List Block). runs_of n (λ p. is_in_some f p)) (sym e)
+    e ∙ sym (runs_of-alike n (λ p. is_in_some (runs_of n test) p) test (λ q l. runs_of_in n test q l))
+    ∙ ap (λ (f : List Block). runs_of n (λ p. is_in_some f p)) (sym e)
 
 pub held_daughter : (x : Creature) (b : Block) (p : ℕ) → x.daughter ≡ Some b → is_in b p ≡ true → holds x p ≡ true
 held_daughter x b p e h =
@@ -109,7 +112,8 @@ holder false true h = omega arith
 holder false false h = (let no : false ≡ true = h in cc)
 
 -- what one of the living holds is owned
-pub owns_held : (living : List Creature) (x : Creature) (p : ℕ) → 0 < times_in (ids_of living) x.id → ((id : ℕ) → times_in (ids_of living) id ≤ 1) → one_of living x.id ≡ x
+pub owns_held : (living : List Creature) (x : Creature) (p : ℕ) → 0 < times_in (ids_of living) x.id → ((id : ℕ) → times_in (ids_of living) id ≤ 1)
+    → one_of living x.id ≡ x
     → holds x p ≡ true → 0 < owners living p
 owns_held living x p here once found held =
     let some : 0 < owners_of x p = holder (is_in x.own p) (is_in_daughter x.daughter p) held in
@@ -130,7 +134,8 @@ held_below n x p k h = go (is_in x.own p) (is_in_daughter x.daughter p) (in_bloc
     go false b own daughter h = daughter h
 
 -- the two blocks of a creature share no cell
-pub held_apart : (living : List Creature) (x : Creature) (p : ℕ) → 0 < times_in (ids_of living) x.id → ((id : ℕ) → times_in (ids_of living) id ≤ 1) → one_of living x.id ≡ x
+pub held_apart : (living : List Creature) (x : Creature) (p : ℕ) → 0 < times_in (ids_of living) x.id → ((id : ℕ) → times_in (ids_of living) id ≤ 1)
+    → one_of living x.id ≡ x
     → owners living p ≤ 1 → is_in x.own p ≡ true → is_in_daughter x.daughter p ≡ false
 held_apart living x p here once found apart own =
     let rest : owners (without x.id living) p + owners_of x p ≡ owners living p

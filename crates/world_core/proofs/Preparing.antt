@@ -1,5 +1,6 @@
 -- What is prepared: the daughter block that is held and the cells as events are done, and the codes of the newborns.
-use Rattle.std.proofs.Common.{◌≡◌, ℕ, zero, suc, ◌+◌, ◌-◌, ◌*◌, ◌^◌, ◌<◌, ◌≤◌, Bool, true, false, List, [], ◌∷◌, ◌++◌, refl, sym, ◌∙◌, ap, append_assoc, arith, drop, get_or, length, set, subst, take}
+use Rattle.std.proofs.Common.{◌≡◌, ℕ, zero, suc, ◌+◌, ◌-◌, ◌*◌, ◌^◌, ◌<◌, ◌≤◌, Bool, true, false, List, [], ◌∷◌, ◌++◌, refl, sym, ◌∙◌, ap, append_assoc, arith}
+use Rattle.std.proofs.Common.{drop, get_or, length, set, subst, take}
 use Rattle.std.proofs.Math.Seq.{take-set-lt}
 use Rattle.std.proofs.lemmas.List.{drop-set-add, drop-set-lt, length-set, take-set-le}
 use Rattle.std.proofs.lemmas.Bool.Decides.{nat_tests}
@@ -71,7 +72,8 @@ codes-append w [] e = append_nil (code_born w e)
     append_nil [] = refl
     append_nil (x ∷ xs) = ap (λ (l : List (List ℕ)). x ∷ l) (append_nil xs)
 codes-append w (x ∷ xs) e =
-    ap (λ (l : List (List ℕ)). code_born w x ++ l) (codes-append (apply_event w x) xs e) ∙ sym (append_assoc (code_born w x) (codes_born (apply_event w x) xs) (code_born (after_events (apply_event w x) xs) e))
+    ap (λ (l : List (List ℕ)). code_born w x ++ l) (codes-append (apply_event w x) xs e)
+    ∙ sym (append_assoc (code_born w x) (codes_born (apply_event w x) xs) (code_born (after_events (apply_event w x) xs) e))
 
 -- ---- the code of a block, as cells are written
 
@@ -113,7 +115,8 @@ set-range soup from size at v = go (nat_le from at) refl (nat_lt at (from + size
     go true e true f = set-within soup from n at v (grind (arith, nat_tests)) (let h : at < from + size = grind (arith, nat_tests) in omega arith)
     go true e false f = set-behind soup from n at v (let h : from + size ≤ at = grind (arith, nat_tests) in omega arith)
 
-pub written-range : (e : Event) (b : Block) (soup : List ℕ) → slice_range (with_write e soup) b.at (b.at + b.size) ≡ written_into b e (slice_range soup b.at (b.at + b.size))
+pub written-range : (e : Event) (b : Block) (soup : List ℕ)
+    → slice_range (with_write e soup) b.at (b.at + b.size) ≡ written_into b e (slice_range soup b.at (b.at + b.size))
 written-range (event.Write at value) b soup = set-range soup b.at b.size at value
 written-range _ b soup = refl
 
@@ -140,7 +143,8 @@ below-event w (event.Mal at size) n same c = tt
 below-event w (event.Reap place) n same c = tt
 below-event w (event.Divide ran moved) n same c = tt
 
-pub writes-below : (w : World) (es : List Event) (i : ℕ) (d : Event) (n : ℕ) → w.settings.soup_size ≡ n → i < length es → CanAllHappen w es → WritesBelow n (get_or es i d)
+pub writes-below : (w : World) (es : List Event) (i : ℕ) (d : Event) (n : ℕ) → w.settings.soup_size ≡ n → i < length es → CanAllHappen w es
+    → WritesBelow n (get_or es i d)
 writes-below w [] i d n same h c = absurd (omega arith)
 writes-below w (e ∷ es) zero d n same h c = below-event w e n same c.0
 writes-below w (e ∷ es) (suc i) d n same h c =
@@ -157,7 +161,8 @@ within-after w es s c = within-events w.settings (limit w) (limit w) (limit w) 0
 pub running-after : (w : World) (es : List Event) → IsSound w → CanAllHappen w es → length es < 2 ^ 31 → IsRunning (after_events w es)
 running-after w es s c few =
     let past : w.quanta ≤ 4000000 = s.quanta in
-    running-within w.settings (limit w + length es) (limit w) (limit w + length es) (0 + 20100 * length es) (w.quanta + 1) (after_events w es) (within-after w es s c) (omega arith) (omega arith) (omega arith)
+    running-within w.settings (limit w + length es) (limit w) (limit w + length es) (0 + 20100 * length es) (w.quanta + 1) (after_events w es)
+    (within-after w es s c) (omega arith) (omega arith) (omega arith)
 
 pub front-after : (w : World) (es : List Event) → IsSound w → CanAllHappen w es → HasFront (after_events w es)
 front-after w es s c = (within-after w es s c).population.has_front

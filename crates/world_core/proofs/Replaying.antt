@@ -51,7 +51,8 @@ doing-none h events codes s can r =
       can = can;
       few = omega (arith, r.few);
       past = s.quanta;
-      within = within-weaker h.world.settings (limit h.world) (limit h.world) (limit h.world) 0 (h.world.quanta + 1) (limit h.world + 0) (limit h.world) (limit h.world + 0) (20100 * 0) h.world
+      within = within-weaker h.world.settings (limit h.world) (limit h.world) (limit h.world) 0 (h.world.quanta + 1) (limit h.world + 0) (limit h.world)
+          (limit h.world + 0) (20100 * 0) h.world
           (omega arith) (omega arith) (omega arith) (omega arith) (within-start h.world s);
       newborns = r.newborns;
       cells = r.cells;
@@ -59,7 +60,8 @@ doing-none h events codes s can r =
       blocks = r.blocks;
     }
 
-pub doing-runs : (w0 : World) (all : List Event) (k : ℕ) (left : List Event) (codes : List (List ℕ)) (h : WorldFields) → Doing w0 all k left codes h → IsRunning h.world
+pub doing-runs : (w0 : World) (all : List Event) (k : ℕ) (left : List Event) (codes : List (List ℕ)) (h : WorldFields) → Doing w0 all k left codes h
+    → IsRunning h.world
 doing-runs w0 all k left codes h d =
     let past : w0.quanta ≤ 4000000 = d.past in
     let few : k + length left < 2 ^ 31 = d.few in

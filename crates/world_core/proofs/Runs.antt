@@ -21,7 +21,8 @@ some-run gs q [] rest h one other = absurd (omega arith)
 some-run gs q (s ∷ run) rest h one other = run-grouped gs q s run rest one other
 
 pub first-run : (gs : List Genotype) (xs : List Saving) (at end : ℕ) → at < end → end ≤ length xs → AreOf xs at end → BeginsAnew xs at end
-    → grouped gs (savings_of (drop at xs)) ≡ group_of gs (quantum_of (slice_range xs at end)) (savings_of (slice_range xs at end)) ∷ grouped gs (savings_of (drop end xs))
+    → grouped gs (savings_of (drop at xs)) ≡ group_of gs (quantum_of (slice_range xs at end))
+    (savings_of (slice_range xs at end)) ∷ grouped gs (savings_of (drop end xs))
 first-run gs xs at end l h same anew =
     let n : ℕ = end - at in
     let run : List Saving = slice_range xs at end in

@@ -71,7 +71,14 @@ fills-can s c cs w f =
 
 length-overwrite : (xs : List ℕ) (at : ℕ) (ys : List ℕ) → at + length ys ≤ length xs → length (overwrite xs at ys) ≡ length xs
 length-overwrite xs at ys h =
-    omega (arith, length-append (take at xs ++ ys) (drop (at + length ys) xs), length-append (take at xs) ys, length-take at xs, length-drop (at + length ys) xs)
+    omega (
+      arith,
+      length-append (take at xs ++ ys) (drop (at + length ys) xs),
+      length-append (take at xs) ys,
+      length-take at xs,
+      length-drop (at + length ys)
+          xs,
+    )
 
 pub fills-next : (s : Settings) (c : Inoculum) (cs : List Inoculum) (w : World) → Fills s (c ∷ cs) w → Fills s cs (inoculated w c.at c.code)
 fills-next s c cs w f =

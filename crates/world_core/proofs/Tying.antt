@@ -140,7 +140,8 @@ tied-entered n living blocks after census counts nb none size free more t =
     record {
       size = size ∙ t.size;
       free = free ∙ (λ i. runs_of (t.size i) (λ p. is_in_some (t.free i) p && not (is_in nb.own p)))
-          ∙ free-taken n living (living ++ nb ∷ []) nb.own (λ p. omega (arith, sum_of-append (λ d. owners_of d p) living (nb ∷ []), daughter-is nb None p none));
+          ∙ free-taken n living (living ++ nb ∷ []) nb.own
+          (λ p. omega (arith, sum_of-append (λ d. owners_of d p) living (nb ∷ []), daughter-is nb None p none));
       counts = λ g. omega (arith, t.counts g, more g, sum_of-append (λ d. one_if (d.genotype == g)) living (nb ∷ []));
     }
 

@@ -66,11 +66,13 @@ running-within s e m b z q w d few births past =
       reaper = p.each_once.reaper;
       fresh = p.each_once.fresh;
       placed = all_from_each (IsPlaced w.settings.soup_size) w.living
-          (each-map (InBounds s.soup_size e m) (IsPlaced w.settings.soup_size) (λ c k. subst (λ (n : ℕ). IsPlaced n c) (sym p.size) (placed_from s.soup_size e m c k)) w.living p.each);
+          (each-map (InBounds s.soup_size e m) (IsPlaced w.settings.soup_size)
+          (λ c k. subst (λ (n : ℕ). IsPlaced n c) (sym p.size) (placed_from s.soup_size e m c k)) w.living p.each);
       apart = p.each_once.apart;
       genotype = all_from_each (GenotypeBelow (length w.genotypes)) w.living d.genotype;
       small = all_from_each (λ c. (c.errors < 2 ^ 60) × (c.bred < 2 ^ 60)) w.living
-          (each-map (InBounds s.soup_size e m) (λ c. (c.errors < 2 ^ 60) × (c.bred < 2 ^ 60)) (λ c k. (omega (arith, k.errors), omega (arith, k.bred))) w.living p.each);
+          (each-map (InBounds s.soup_size e m) (λ c. (c.errors < 2 ^ 60)
+          × (c.bred < 2 ^ 60)) (λ c k. (omega (arith, k.errors), omega (arith, k.bred))) w.living p.each);
       written = d.listed.written;
       totals = λ k g h. omega (arith, d.listed.totals k g h);
       births = p.births;
@@ -82,7 +84,8 @@ running-within s e m b z q w d few births past =
 pub running-sound : (w : World) → IsSound w → IsRunning w
 running-sound w s =
     let past : w.quanta ≤ 4000000 = s.quanta in
-    running-within w.settings (count_limit w.quanta) (count_limit w.quanta) (count_limit w.quanta) 0 (w.quanta + 1) w (within-start w s) (omega arith) (omega arith) (omega arith)
+    running-within w.settings (count_limit w.quanta) (count_limit w.quanta) (count_limit w.quanta) 0 (w.quanta + 1) w (within-start w s) (omega arith)
+    (omega arith) (omega arith)
 
 -- ---- a record that is the front's
 

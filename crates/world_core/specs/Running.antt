@@ -9,8 +9,8 @@ use Rattle.tierra_model.specs.World.{World, first_of}
 use Rattle.tierra_model.specs.Sound.{IsPlaced, owners}
 use Rattle.soup_cells.specs.Soup.{is_ready}
 
--- what contracts see: the world, the soup's own pages, how many births need no memory, and how many blocks can be taken or
--- given back without memory
+-- what contracts see: the world, the soup's own pages, how many births need no memory, and how many blocks can be taken
+-- or given back without memory
 pub record WorldFields : Type 0 where
   pub world : World
   pub own : List Bool

@@ -23,4 +23,5 @@ AreOf saved at end = AllWithin (λ s. s.quantum ≡ (slice_index_or saved at no_
 
 -- the saving at place end, if there is one, has a different quantum from the saving at place at
 abbrev pub BeginsAnew : List Saving → ℕ → ℕ → Type 0
-BeginsAnew saved at end = end < length saved → (slice_index_or saved end no_saving).quantum ≢ (slice_index_or saved at no_saving).quantum
+BeginsAnew saved at end = end < length saved
+    → (slice_index_or saved end no_saving).quantum ≢ (slice_index_or saved at no_saving).quantum

@@ -13,7 +13,10 @@ use Rattle.tierra_model.specs.Serial.{overwrite}
 -- the code in the soup, and its creature in the world
 abbrev pub inoculated : World → ℕ → List ℕ → World
 inoculated w at code =
-    with_creature w.genotypes (record { at = at; size = length code }) code None 0 (record w { soup = overwrite w.soup at code })
+    with_creature w.genotypes (record {
+      at = at;
+      size = length code;
+    }) code None 0 (record w { soup = overwrite w.soup at code })
 
 -- the code can be put there, into a world that is being filled
 pub record CanInoculate (w : World) (at : ℕ) (code : List ℕ) : Type 0 where

@@ -1,5 +1,6 @@
 -- Blocks in the order of their places share no cell exactly where each begins after those before it.
-use Rattle.std.proofs.Common.{◌≡◌, ◌∙◌, ℕ, suc, ◌+◌, ◌<◌, ◌≤◌, Bool, List, [], ◌∷◌, None, Some, refl, sym, ap, ap₂, subst, arith, get_or, length, true, false, inl, inr}
+use Rattle.std.proofs.Common.{◌≡◌, ◌∙◌, ℕ, suc, ◌+◌, ◌<◌, ◌≤◌, Bool, List, [], ◌∷◌, None, Some, refl, sym, ap, ap₂, subst, arith, get_or, length, true, false}
+use Rattle.std.proofs.Common.{inl, inr}
 use Rattle.std.specs.Prelude.{◌↔◌, All, IfSome, Option, nat_le, option_to_list}
 use Rattle.std.specs.List.Sorted.{IsNonDecreasingBy, IsPermutation}
 use Rattle.std.proofs.lemmas.Bool.{cases_lt}
@@ -76,7 +77,8 @@ once-covered end p (b ∷ bs) all =
     let s = passed-first apart_step end b bs all in
     let t = if_some (nat_le end b.at) (b.at + b.size) s.next s.on in
     elim (cases_lt p (b.at + b.size)) [
-      | inl lt ↦ (let rest : covers bs p ≡ 0 = none-before s.next p bs s.rest (omega (arith, t.1, lt)) in at_most (is_in b p) (covers bs p) (omega (arith, rest)))
+      | inl lt ↦ (let rest : covers bs p ≡ 0 = none-before s.next p bs s.rest (omega (arith, t.1, lt)) in
+          at_most (is_in b p) (covers bs p) (omega (arith, rest)))
       | inr le ↦ (let out : is_in b p ≡ false = grind (arith, nat_tests) in
           let rest : covers bs p ≤ 1 = once-covered s.next p bs s.rest in
           rw out (omega (arith, rest)))

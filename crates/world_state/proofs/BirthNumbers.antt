@@ -44,7 +44,8 @@ none-around low id (x ∷ xs) zero d o before at =
     grind (arith, nat_tests)
 none-around low id (x ∷ xs) (suc i) d o before at =
     let lower : x.id < id = before zero (omega arith) (omega arith) in
-    let rest : times_in (ids_of xs) id ≡ 0 = none-around (x.id + 1) id xs i d o.1 (λ k h l. before (suc k) (omega arith) (omega arith)) (λ h. at (omega arith)) in
+    let rest : times_in (ids_of xs) id ≡ 0 = none-around (x.id + 1) id xs i d o.1 (λ k h l. before (suc k) (omega arith) (omega arith))
+    (λ h. at (omega arith)) in
     grind (arith, nat_tests)
 
 pub found-at : (low id : ℕ) (xs : List Creature) (k : ℕ) (d : Creature) → Ordered low (ids_of xs) → k < length xs → (get_or xs k d).id ≡ id

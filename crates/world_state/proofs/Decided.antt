@@ -1,5 +1,6 @@
 -- Of all bytes it can be told whether they are the state of a sound world.
-use Rattle.std.proofs.Common.{◌≡◌, ◌∙◌, ◌⊎◌, ℕ, zero, suc, ◌+◌, ◌<◌, ◌≤◌, Bool, List, [], ◌∷◌, None, Some, Option, refl, sym, subst, arith, get_or, length, true, false, inl, inr}
+use Rattle.std.proofs.Common.{◌≡◌, ◌∙◌, ◌⊎◌, ℕ, zero, suc, ◌+◌, ◌<◌, ◌≤◌, Bool, List, [], ◌∷◌, None, Some, Option, refl, sym, subst, arith, get_or, length}
+use Rattle.std.proofs.Common.{true, false, inl, inr}
 use Rattle.std.specs.Prelude.{◌==◌, ◌↔◌, All, nat_le, nat_lt}
 use Rattle.std.specs.Str.{bytes_eq}
 use Rattle.std.specs.List.{insert, list_all}
@@ -7,7 +8,8 @@ use Rattle.std.specs.List.Sorted.{IsNonDecreasingBy, IsPermutation}
 use Rattle.std.proofs.lemmas.Bool.{cases_eq, cases_lt}
 use Rattle.std.proofs.lemmas.Bool.Decides.{nat_tests}
 use Rattle.std.proofs.lemmas.List.Elements.{All-head, All-tail}
-use Rattle.std.proofs.lemmas.List.Sorted.{IsNonDecreasingBy-drop, IsNonDecreasingBy-insert, IsNonDecreasingBy-short, IsPermutation-cons, IsPermutation-insert, IsPermutation-refl, IsPermutation-trans}
+use Rattle.std.proofs.lemmas.List.Sorted.{IsNonDecreasingBy-drop, IsNonDecreasingBy-insert, IsNonDecreasingBy-short, IsPermutation-cons, IsPermutation-insert}
+use Rattle.std.proofs.lemmas.List.Sorted.{IsPermutation-refl, IsPermutation-trans}
 use Rattle.std.proofs.lemmas.Slice.Eq.{bytes_eq-Decides}
 use Rattle.tierra_model.specs.declared.limits.TheConstants.{MOST_QUANTA}
 use Rattle.tierra_model.specs.declared.creatures.Block.{Block}
@@ -28,7 +30,8 @@ use Rattle.world_state.specs.Soundness.{AreCodedOnce, AreDue, AreGenotypes, AreL
 use Rattle.world_state.specs.StateBytes.{state_bytes}
 use Rattle.world_state.proofs.ApartBlocks.{apart-is}
 use Rattle.world_state.proofs.Deciding.{all-decides, cell-decides, lt-decides}
-use Rattle.world_state.proofs.Joined.{found-decide, living-decide, ordered-lower, saved-decide, saved-known, sizes-are, sound-counts, sound-from, sound-matched, sound-parts}
+use Rattle.world_state.proofs.Joined.{found-decide, living-decide, ordered-lower, saved-decide, saved-known, sizes-are, sound-counts, sound-from, sound-matched}
+use Rattle.world_state.proofs.Joined.{sound-parts}
 use Rattle.world_state.proofs.LineOrder.{sorted-is, times-permuted}
 use Rattle.world_state.proofs.Told.{draft_is, made_of, none_told}
 use Rattle.world_state.proofs.TypesFit.{AreBytes, types-fit}

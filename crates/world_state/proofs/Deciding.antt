@@ -1,5 +1,6 @@
 -- What the tests of a world's parts decide.
-use Rattle.std.proofs.Common.{◌≡◌, ◌⊎◌, ℕ, zero, suc, ◌+◌, ◌<◌, ◌≤◌, ◌^◌, Bool, List, [], ◌∷◌, None, Some, Option, refl, sym, subst, arith, length, true, false, inl, inr}
+use Rattle.std.proofs.Common.{◌≡◌, ◌⊎◌, ℕ, zero, suc, ◌+◌, ◌<◌, ◌≤◌, ◌^◌, Bool, List, [], ◌∷◌, None, Some, Option, refl, sym, subst, arith, length, true, false}
+use Rattle.std.proofs.Common.{inl, inr}
 use Rattle.std.specs.Prelude.{if◌then◌else◌, ◌&&◌, ◌↔◌, ◌==◌, All, IfSome, nat_le, nat_lt, slice_index_or}
 use Rattle.std.specs.List.{list_all}
 use Rattle.std.proofs.lemmas.Bool.{cases_eq}
@@ -17,7 +18,8 @@ use Rattle.tierra_model.specs.World.{Genotype, genotype_at, Saving as ModelSavin
 use Rattle.tierra_model.proofs.Each.{Each}
 use Rattle.world_state.specs.declared.fields.Found.{Found}
 use Rattle.world_state.specs.declared.saving.Saving.{Saving}
-use Rattle.world_state.specs.Checks.{counted, has_counts, has_places, is_block_in, is_code, is_code_number, is_daughter_in, is_effort, is_genotype, is_parent, is_placed, is_saving, no_found, number_step, parent_step, passes, rising_step, size_step}
+use Rattle.world_state.specs.Checks.{counted, has_counts, has_places, is_block_in, is_code, is_code_number, is_daughter_in, is_effort, is_genotype, is_parent}
+use Rattle.world_state.specs.Checks.{is_placed, is_saving, no_found, number_step, parent_step, passes, rising_step, size_step}
 use Rattle.world_state.specs.Reading.{genotypes_of}
 use Rattle.world_state.specs.Savings.{savings_of}
 use Rattle.world_state.proofs.Passing.{if_some, number-on, parent-on, passed-first, passes-first, passes-none, rising-on, size-on}
@@ -89,7 +91,8 @@ pub genotype-decides : (limit : ℕ) (f : Found) → (is_genotype limit f ≡ tr
 genotype-decides limit f =
     let one = both-decide (is_code f.code) (nat_le f.total limit) _ _ (code-decides f.code) (le-decides f.total limit) in
     let two = both-decide (is_code f.code && nat_le f.total limit) (is_effort f.first_effort) _ _ one (effort-decides f.first_effort) in
-    let all = both-decide (is_code f.code && nat_le f.total limit && is_effort f.first_effort) (is_effort f.second_effort) _ _ two (effort-decides f.second_effort) in (
+    let all = both-decide (is_code f.code && nat_le f.total limit && is_effort f.first_effort)
+    (is_effort f.second_effort) _ _ two (effort-decides f.second_effort) in (
       λ e. (let p = all.0 e in ((p.0.0.0.0.0, p.0.0.0.0.1, p.0.0.0.1), p.0.0.1, (p.0.1, p.1))),
       λ h. all.1 (((((h.0.0, h.0.1), h.0.2), h.1), h.2.0), h.2.1),
     )
@@ -215,7 +218,8 @@ sizes-decide fs q n (s ∷ ss) up few =
             | inr other ↦ (let a = other-here fs (q, n) s ss r other in elim (cases_eq q r) [
               | inl first ↦ (let none = none-earlier (genotypes_of fs) s.quantum r (savings_of ss) up.1 (omega (arith, later, first, other)) in
                   let is : (if r == q then n else 0) ≡ n = subst (λ k. (if k == q then n else 0) ≡ n) first (when_same q n) in omega (arith, a, none, is, few))
-              | inr neither ↦ (let b = other-after fs q n ss r neither in let d = other-after fs s.quantum (counted fs (q, n) s) ss r other in let r2 = rest r in omega (arith, a, b, d, r2))
+              | inr neither ↦ (let b = other-after fs q n ss r neither in let d = other-after fs s.quantum (counted fs (q, n) s) ss r other in let r2 =
+                  rest r in omega (arith, a, b, d, r2))
             ])
           ]),
       λ h.
@@ -223,6 +227,7 @@ sizes-decide fs q n (s ∷ ss) up few =
           passes-first (size_step fs) (q, n) (s.quantum, counted fs (q, n) s) s ss (size-on fs (q, n) s (counted fs (q, n) s) refl small)
           ((sizes-decide fs s.quantum (counted fs (q, n) s) ss up.1 small).1 (λ r. elim (cases_eq s.quantum r) [
             | inl same ↦ subst (λ k. in_all fs (s.quantum, counted fs (q, n) s) ss k < 2 ^ 30) same (let one = h s.quantum in omega (arith, here, after, one))
-            | inr other ↦ (let a = other-here fs (q, n) s ss r other in let d = other-after fs s.quantum (counted fs (q, n) s) ss r other in let one = h r in omega (arith, a, d, one))
+            | inr other ↦ (let a = other-here fs (q, n) s ss r other in let d = other-after fs s.quantum (counted fs (q, n) s) ss r other in let one =
+                h r in omega (arith, a, d, one))
           ])),
     )

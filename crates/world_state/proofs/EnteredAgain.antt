@@ -1,5 +1,6 @@
 -- Genotypes that are put in again, and whether two have the same code.
-use Rattle.std.proofs.Common.{◌≡◌, ◌∙◌, ℕ, zero, suc, ◌+◌, ◌<◌, ◌≤◌, Bool, List, [], ◌∷◌, ◌++◌, None, Some, Option, refl, sym, ap, subst, arith, get_or, length, take, true, false}
+use Rattle.std.proofs.Common.{◌≡◌, ◌∙◌, ℕ, zero, suc, ◌+◌, ◌<◌, ◌≤◌, Bool, List, [], ◌∷◌, ◌++◌, None, Some, Option, refl, sym, ap, subst, arith, get_or, length}
+use Rattle.std.proofs.Common.{take, true, false}
 use Rattle.std.specs.Prelude.{if◌then◌else◌, option_map}
 use Rattle.std.specs.Str.{bytes_eq}
 use Rattle.std.proofs.lemmas.Slice.Eq.{bytes_eq-Decides}
@@ -26,7 +27,14 @@ entered gs f = go f.first_effort f.second_effort
   where
     go : (first second : Option Effort)
         → noted (length gs) 2 second (noted (length gs) 1 first (gs ++ new_genotype f.code f.parent f.first_quantum f.total ∷ []))
-        ≡ gs ++ (record { code = f.code; parent = f.parent; first_quantum = f.first_quantum; total = f.total; first_effort = first; second_effort = second }) ∷ []
+        ≡ gs ++ (record {
+          code = f.code;
+          parent = f.parent;
+          first_quantum = f.first_quantum;
+          total = f.total;
+          first_effort = first;
+          second_effort = second;
+        }) ∷ []
     go None None = refl
     go (Some e) None = last-noted 1 e gs (new_genotype f.code f.parent f.first_quantum f.total)
     go None (Some e) = last-noted 2 e gs (new_genotype f.code f.parent f.first_quantum f.total)

@@ -1,5 +1,6 @@
 -- Each field of a world is read back from its bytes.
-use Rattle.std.proofs.Common.{◌≡◌, ◌∙◌, refl, ap, ℕ, ℤ, ◌+◌, ◌<◌, ◌≤◌, ◌^◌, arith, List, [], ◌∷◌, ◌++◌, All, length, Option, Some, None, FitsSigned, append_assoc, false, ◌-◌}
+use Rattle.std.proofs.Common.{◌≡◌, ◌∙◌, refl, ap, ℕ, ℤ, ◌+◌, ◌<◌, ◌≤◌, ◌^◌, arith, List, [], ◌∷◌, ◌++◌, All, length, Option, Some, None, FitsSigned}
+use Rattle.std.proofs.Common.{append_assoc, false, ◌-◌}
 use Rattle.std.specs.Prelude.{IfSome, ◌==◌}
 use Rattle.std.specs.Int.{cast_signed, cast_unsigned, w32}
 use Rattle.std.specs.List.{flat_map}
@@ -10,8 +11,13 @@ use Rattle.tierra_model.specs.declared.creatures.Creature.{Creature}
 use Rattle.tierra_model.specs.declared.creatures.Effort.{Effort}
 use Rattle.world_state.specs.declared.fields.Found.{Found}
 use Rattle.world_state.specs.declared.saving.Saving.{Saving}
-use Rattle.world_state.specs.StateBytes.{block_bytes, body_bytes, count_bytes, creature_bytes, daughter_bytes, effort_bytes, eight, four, genotype_bytes, parent_bytes, processor_bytes, register_bytes, registers_bytes, saving_bytes, stack_bytes}
-use Rattle.world_state.specs.Reading.{Body, Counts, CreatureParts, Details, FoundParts, Processor, Registers, SavingParts, Stack, block_at, block_from, body_at, both, byte_at, cells_at, counts_at, creature_at, creature_from, daughter_at, daughter_from, details_at, effort_at, effort_from, efforts_at, eight_at, eights_at, found_at, found_from, four_at, four_eights_at, fours_at, founds_at, genotype_of, line_at, list_at, made, only, parent_at, parent_from, piece_at, processor_at, register_at, registers_at, saving_at, saving_from, savings_at, second, sized_at, stack_at, two_registers_at}
+use Rattle.world_state.specs.StateBytes.{block_bytes, body_bytes, count_bytes, creature_bytes, daughter_bytes, effort_bytes, eight, four, genotype_bytes}
+use Rattle.world_state.specs.StateBytes.{parent_bytes, processor_bytes, register_bytes, registers_bytes, saving_bytes, stack_bytes}
+use Rattle.world_state.specs.Reading.{Body, Counts, CreatureParts, Details, FoundParts, Processor, Registers, SavingParts, Stack, block_at, block_from, body_at}
+use Rattle.world_state.specs.Reading.{both, byte_at, cells_at, counts_at, creature_at, creature_from, daughter_at, daughter_from, details_at, effort_at}
+use Rattle.world_state.specs.Reading.{effort_from, efforts_at, eight_at, eights_at, found_at, found_from, four_at, four_eights_at, fours_at, founds_at}
+use Rattle.world_state.specs.Reading.{genotype_of, line_at, list_at, made, only, parent_at, parent_from, piece_at, processor_at, register_at, registers_at}
+use Rattle.world_state.specs.Reading.{saving_at, saving_from, savings_at, second, sized_at, stack_at, two_registers_at}
 use Rattle.world_state.specs.Savings.{saving_of}
 use Rattle.world_state.proofs.ReadBack.{Back, Makes, back-both, back-eight, back-four, back-list, back-made, back-piece}
 

@@ -14,11 +14,13 @@ use Rattle.tierra_model.specs.World.{Genotype, Saving as ModelSaving, World, gen
 use Rattle.tierra_model.proofs.Each.{Each, all_from_each, each-map, each_from_all}
 use Rattle.world_state.specs.declared.fields.Found.{Found}
 use Rattle.world_state.specs.declared.saving.Saving.{Saving}
-use Rattle.world_state.specs.Checks.{are_found, are_living, are_saved, has_counts, has_places, is_genotype, is_placed, is_saving, no_found, number_step, parent_step, passes, rising_step, size_step}
+use Rattle.world_state.specs.Checks.{are_found, are_living, are_saved, has_counts, has_places, is_genotype, is_placed, is_saving, no_found, number_step}
+use Rattle.world_state.specs.Checks.{parent_step, passes, rising_step, size_step}
 use Rattle.world_state.specs.Reading.{genotype_of, genotypes_of}
 use Rattle.world_state.specs.Savings.{saving_of, savings_of}
 use Rattle.world_state.specs.Soundness.{AreGenotypes, AreLiving, AreSavings, HasCounts, HasParts, HasSizes, IsMatched}
-use Rattle.world_state.proofs.Deciding.{IsGenotypeIn, IsSavingIn, all-decides, both-decide, counts-decide, genotype-decides, lt-decides, numbered-decides, parents-decide, placed-decides, places-decide, rising-decides, saving-decides, sizes-decide}
+use Rattle.world_state.proofs.Deciding.{IsGenotypeIn, IsSavingIn, all-decides, both-decide, counts-decide, genotype-decides, lt-decides, numbered-decides}
+use Rattle.world_state.proofs.Deciding.{parents-decide, placed-decides, places-decide, rising-decides, saving-decides, sizes-decide}
 use Rattle.world_state.proofs.LineOrder.{times-once}
 
 -- ---- lists of records and what they stand for
@@ -50,9 +52,11 @@ living-decide n count next limit xs =
     let e : Bool = list_all (has_counts limit) xs in
     let two = both-decide a b _ _ (numbered-decides next 1 xs) (all-decides (is_placed n) (IsPlaced n) (placed-decides n) xs) in
     let three = both-decide (a && b) c _ _ two (all-decides (has_places n) (λ (x : Creature). (x.ip < n) × (x.sp < 10)) (places-decide n) xs) in
-    let four = both-decide (a && b && c) d _ _ three (all-decides (λ (x : Creature). nat_lt x.genotype count) (λ (x : Creature). x.genotype < count) (λ (x : Creature). lt-decides x.genotype count) xs) in
+    let four = both-decide (a && b && c) d _ _ three (all-decides (λ (x : Creature). nat_lt x.genotype count) (λ (x : Creature). x.genotype < count)
+    (λ (x : Creature). lt-decides x.genotype count) xs) in
     let five = both-decide (a && b && c && d) e _ _ four
-    (all-decides (has_counts limit) (λ (x : Creature). (x.errors ≤ limit) × (x.moved ≤ limit) × (x.ran ≤ limit) × (x.bred ≤ limit)) (counts-decide limit) xs) in (
+    (all-decides (has_counts limit) (λ (x : Creature). (x.errors ≤ limit) × (x.moved ≤ limit) × (x.ran ≤ limit)
+    × (x.bred ≤ limit)) (counts-decide limit) xs) in (
       λ h. (let p = five.0 h in record {
         ordered = p.0.0.0.0.0;
         numbers = all_from_each (λ (x : Creature). (1 ≤ x.id) × (x.id < next)) xs (numbers-each 1 next xs (omega arith) p.0.0.0.0.0 p.0.0.0.0.1);
@@ -65,7 +69,12 @@ living-decide n count next limit xs =
         (
           (
             (
-              (h.ordered, each-map (λ (x : Creature). (1 ≤ x.id) × (x.id < next)) (λ (x : Creature). x.id < next) (λ x q. q.1) xs (each_from_all (λ (x : Creature). (1 ≤ x.id) × (x.id < next)) xs h.numbers)),
+              (
+                h.ordered,
+                each-map (λ (x : Creature). (1 ≤ x.id)
+                    × (x.id < next)) (λ (x : Creature). x.id < next) (λ x q. q.1)
+                    xs (each_from_all (λ (x : Creature). (1 ≤ x.id) × (x.id < next)) xs h.numbers),
+              ),
               h.placed,
             ),
             h.processor,
@@ -85,12 +94,14 @@ found-decide limit fs =
       λ h. (let p = both.0 h in record {
         written = All-map (λ (g : Genotype). IsCode g.code) genotype_of fs (All-weaker (IsGenotypeIn limit) (λ (f : Found). IsCode f.code) (λ f q. q.0) fs p.0);
         parents = p.1;
-        totals = All-map (λ (g : Genotype). g.total ≤ limit) genotype_of fs (All-weaker (IsGenotypeIn limit) (λ (f : Found). f.total ≤ limit) (λ f q. q.1) fs p.0);
+        totals = All-map (λ (g : Genotype). g.total ≤ limit) genotype_of fs
+            (All-weaker (IsGenotypeIn limit) (λ (f : Found). f.total ≤ limit) (λ f q. q.1) fs p.0);
         efforts = All-map (λ (g : Genotype). AreEfforts g.first_effort g.second_effort) genotype_of fs
             (All-weaker (IsGenotypeIn limit) (λ (f : Found). AreEfforts f.first_effort f.second_effort) (λ f q. (q.2.0, q.2.1)) fs p.0);
       }),
       λ h. both.1 (
-        All-weaker (λ (f : Found). IsCode f.code × ((f.total ≤ limit) × AreEfforts f.first_effort f.second_effort)) (IsGenotypeIn limit) (λ f q. (q.0, q.1.0, q.1.1)) fs
+        All-weaker (λ (f : Found). IsCode f.code × ((f.total ≤ limit) × AreEfforts f.first_effort f.second_effort)) (IsGenotypeIn limit)
+            (λ f q. (q.0, q.1.0, q.1.1)) fs
             (together (λ (f : Found). IsCode f.code) (λ (f : Found). (f.total ≤ limit) × AreEfforts f.first_effort f.second_effort) fs
             (unmapped (λ (g : Genotype). IsCode g.code) genotype_of fs h.written)
             (together (λ (f : Found). f.total ≤ limit) (λ (f : Found). AreEfforts f.first_effort f.second_effort) fs
@@ -106,7 +117,8 @@ saved-decide quanta ss =
     (all-decides (is_saving quanta) (IsSavingIn quanta) (saving-decides quanta) ss) (rising-decides 0 ss) in (
       λ h. (let p = both.0 h in record {
         rising = p.1;
-        past = All-map (λ (s : ModelSaving). s.quantum ≤ quanta) saving_of ss (All-weaker (IsSavingIn quanta) (λ (s : Saving). s.quantum ≤ quanta) (λ s q. q.0) ss p.0);
+        past = All-map (λ (s : ModelSaving). s.quantum ≤ quanta) saving_of ss
+            (All-weaker (IsSavingIn quanta) (λ (s : Saving). s.quantum ≤ quanta) (λ s q. q.0) ss p.0);
         efforts = All-map (λ (s : ModelSaving). AreEfforts s.first_effort s.second_effort) saving_of ss
             (All-weaker (IsSavingIn quanta) (λ (s : Saving). AreEfforts s.first_effort s.second_effort) (λ s q. q.1) ss p.0);
       }),
@@ -153,7 +165,8 @@ saved-known at fs ss one each = saved-each (length fs) ss (λ k m. go k m (nat_l
         absurd (omega (arith, m, times, low))
 
 pub codes-short : (fs : List Found) → All (λ g. IsCode g.code) (genotypes_of fs) → All (λ f. length f.code ≤ MOST_SIZE) fs
-codes-short fs h = All-weaker (λ (f : Found). IsCode f.code) (λ (f : Found). length f.code ≤ MOST_SIZE) (λ f q. q.1) fs (unmapped (λ (g : Genotype). IsCode g.code) genotype_of fs h)
+codes-short fs h = All-weaker (λ (f : Found). IsCode f.code) (λ (f : Found). length f.code ≤ MOST_SIZE)
+    (λ f q. q.1) fs (unmapped (λ (g : Genotype). IsCode g.code) genotype_of fs h)
 
 pub codes-written : (fs : List Found) → All (λ g. IsCode g.code) (genotypes_of fs) → All (λ f. IsCode f.code) fs
 codes-written fs h = unmapped (λ (g : Genotype). IsCode g.code) genotype_of fs h

@@ -100,7 +100,8 @@ each-index P [] h = tt
 each-index P (x ∷ xs) h = (h 0 (omega arith), each-index P xs (λ k lt. h (suc k) (omega arith)))
 
 all-found : (living : List Creature) → Ordered 1 (ids_of living) → Each (IsFound living) living
-all-found living o = each-index (IsFound living) living (λ k lt. ap (λ f. unwrap_or f nobody) (found-at 1 (get_or living k nobody).id living k nobody o lt refl))
+all-found living o =
+    each-index (IsFound living) living (λ k lt. ap (λ f. unwrap_or f nobody) (found-at 1 (get_or living k nobody).id living k nobody o lt refl))
 
 map-found : (living xs : List Creature) → Each (IsFound living) xs → map (one_of living) (ids_of xs) ≡ xs
 map-found living [] h = refl

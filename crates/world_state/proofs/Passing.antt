@@ -1,5 +1,6 @@
 -- A test that goes along a list, as a loop does.
-use Rattle.std.proofs.Common.{◌≡◌, ◌∙◌, ℕ, zero, suc, ◌+◌, ◌<◌, ◌≤◌, ◌^◌, Bool, true, false, List, [], ◌∷◌, Option, Some, None, sym, ap, subst, refl, arith, get_or, length, drop}
+use Rattle.std.proofs.Common.{◌≡◌, ◌∙◌, ℕ, zero, suc, ◌+◌, ◌<◌, ◌≤◌, ◌^◌, Bool, true, false, List, [], ◌∷◌, Option, Some, None, sym, ap, subst, refl, arith}
+use Rattle.std.proofs.Common.{get_or, length, drop}
 use Rattle.std.specs.Prelude.{if◌then◌else◌, pos, nat_le, nat_lt, unwrap_or, ◌&&◌}
 use Rattle.std.proofs.lemmas.Bool.Decides.{nat_tests}
 use Rattle.tierra_model.specs.declared.creatures.Block.{Block}

@@ -1,5 +1,6 @@
 -- The bytes of a sound world are read as its parts.
-use Rattle.std.proofs.Common.{◌≡◌, ◌∙◌, refl, sym, ap, ap₂, subst, ℕ, ◌+◌, ◌*◌, ◌<◌, ◌≤◌, ◌^◌, arith, List, [], ◌∷◌, ◌++◌, length, map, Option, Some, None, append-nil}
+use Rattle.std.proofs.Common.{◌≡◌, ◌∙◌, refl, sym, ap, ap₂, subst, ℕ, ◌+◌, ◌*◌, ◌<◌, ◌≤◌, ◌^◌, arith, List, [], ◌∷◌, ◌++◌, length, map, Option, Some, None}
+use Rattle.std.proofs.Common.{append-nil}
 use Rattle.std.specs.Prelude.{All, IfSome, unwrap_or}
 use Rattle.std.specs.List.{flat_map}
 use Rattle.std.specs.List.Sorted.{IsNonDecreasingBy, IsPermutation}
@@ -22,12 +23,15 @@ use Rattle.world_state.specs.declared.fields.Found.{Found}
 use Rattle.world_state.specs.declared.fields.Stop.{Stop}
 use Rattle.world_state.specs.declared.fields.Stop.TheVariants as stop
 use Rattle.world_state.specs.declared.saving.Saving.{Saving}
-use Rattle.world_state.specs.Reading.{StateParts, Stops, both, cells_at, eight_at, four_eights_at, founds_at, genotype_of, genotypes_of, line_at, list_at, savings_at, state_at}
+use Rattle.world_state.specs.Reading.{StateParts, Stops, both, cells_at, eight_at, four_eights_at, founds_at, genotype_of, genotypes_of, line_at, list_at}
+use Rattle.world_state.specs.Reading.{savings_at, state_at}
 use Rattle.world_state.specs.Restoring.{AreBytesOf, FitsTypes, HasLongNumbers, HasWords, IsLongEffort}
 use Rattle.world_state.specs.Savings.{saving_of, savings_of}
-use Rattle.world_state.specs.StateBytes.{counts_bytes, creature_bytes, eight, four, genotype_bytes, genotypes_bytes, living_bytes, reaper_bytes, saving_bytes, savings_bytes, soup_bytes, state_bytes}
+use Rattle.world_state.specs.StateBytes.{counts_bytes, creature_bytes, eight, four, genotype_bytes, genotypes_bytes, living_bytes, reaper_bytes, saving_bytes}
+use Rattle.world_state.specs.StateBytes.{savings_bytes, soup_bytes, state_bytes}
 use Rattle.world_state.proofs.ReadBack.{Back, back-both, back-eight, back-list}
-use Rattle.world_state.proofs.FieldsBack.{Counted, CreatureFits, EffortFits, FoundFits, Long, LongPairs, SavingFits, back-cells, grouped-6, back-four_eights, back-founds, back-line, back-savings}
+use Rattle.world_state.proofs.FieldsBack.{Counted, CreatureFits, EffortFits, FoundFits, Long, LongPairs, SavingFits, back-cells, grouped-6, back-four_eights}
+use Rattle.world_state.proofs.FieldsBack.{back-founds, back-line, back-savings}
 use Rattle.world_state.proofs.LineOrder.{AreHere, are-here, ids-of_line, line_of, sorted-again}
 use Rattle.world_state.proofs.SlicerLength.{length-slicer}
 
@@ -146,7 +150,8 @@ same-text w s =
     let counts : List ℕ = counts_text ((w.quanta, w.births), (w.deaths, w.next_birth)) in
     let reaper : List ℕ = flat_map eight w.reaper in
     (λ i. soup i ++ counts ++ line i ++ reaper ++ founds i ++ saved i)
-    ∙ sym (grouped-6 (four (length w.soup) ++ w.soup) counts (line_text (line_of w)) reaper (founds_text (map found_of w.genotypes)) (savings_text (map stored_of w.saved)))
+    ∙ sym (grouped-6 (four (length w.soup) ++ w.soup) counts (line_text (line_of w)) reaper (founds_text (map found_of w.genotypes))
+    (savings_text (map stored_of w.saved)))
 
 -- ---- the numbers fit
 
@@ -155,7 +160,8 @@ limit-small quanta le = omega arith
 
 creature-fits : (w : World) (c : Creature) → IsSound w → HasWords c → IsPlaced w.settings.soup_size c
     → (c.ip < w.settings.soup_size) × (c.sp < 10) → c.genotype < length w.genotypes → (1 ≤ c.id) × (c.id < w.next_birth)
-    → (c.errors ≤ 2 ^ 40 + 10000 * w.quanta) × (c.moved ≤ 2 ^ 40 + 10000 * w.quanta) × (c.ran ≤ 2 ^ 40 + 10000 * w.quanta) × (c.bred ≤ 2 ^ 40 + 10000 * w.quanta)
+    → (c.errors ≤ 2 ^ 40 + 10000 * w.quanta) × (c.moved ≤ 2 ^ 40 + 10000 * w.quanta) × (c.ran ≤ 2 ^ 40 + 10000 * w.quanta)
+    × (c.bred ≤ 2 ^ 40 + 10000 * w.quanta)
     → CreatureFits c
 creature-fits w c s words placed processor genotype number small =
     let most = w.settings.soup.1 in
@@ -196,7 +202,8 @@ line-fits w s t (id ∷ ids) h = (
       (one (λ c. (c.ip < w.settings.soup_size) × (c.sp < 10)) s.processor)
       (one (λ c. c.genotype < length w.genotypes) s.genotype)
       (one (λ c. (1 ≤ c.id) × (c.id < w.next_birth)) s.numbers)
-      (one (λ c. (c.errors ≤ 2 ^ 40 + 10000 * w.quanta) × (c.moved ≤ 2 ^ 40 + 10000 * w.quanta) × (c.ran ≤ 2 ^ 40 + 10000 * w.quanta) × (c.bred ≤ 2 ^ 40 + 10000 * w.quanta)) s.small),
+      (one (λ c. (c.errors ≤ 2 ^ 40 + 10000 * w.quanta) × (c.moved ≤ 2 ^ 40 + 10000 * w.quanta) × (c.ran ≤ 2 ^ 40 + 10000 * w.quanta)
+      × (c.bred ≤ 2 ^ 40 + 10000 * w.quanta)) s.small),
   line-fits w s t ids h.1,
 )
   where
@@ -286,7 +293,8 @@ parts-fit w s t =
           ((
             (
               length-reaper w s ∙ sym (line-length w s),
-              all_from_each Long w.reaper (ids-fit w.next_birth w.living w.reaper low reaper (each_from_all (λ c. (1 ≤ c.id) × (c.id < w.next_birth)) w.living s.numbers)),
+              all_from_each Long w.reaper (ids-fit w.next_birth w.living w.reaper low reaper
+                  (each_from_all (λ c. (1 ≤ c.id) × (c.id < w.next_birth)) w.living s.numbers)),
             ),
             (
               (omega (arith, length-map w.genotypes found_of, few), founds),

@@ -1,5 +1,6 @@
 -- What is read of bytes has the ranges of the types that it is read into.
-use Rattle.std.proofs.Common.{◌≡◌, ℕ, ℤ, zero, suc, ◌+◌, ◌<◌, ◌^◌, arith, Bool, true, false, List, [], ◌∷◌, All, length, get_or, take, drop, Option, Some, None, FitsSigned, refl, sym, ap, subst, inl, inr}
+use Rattle.std.proofs.Common.{◌≡◌, ℕ, ℤ, zero, suc, ◌+◌, ◌<◌, ◌^◌, arith, Bool, true, false, List, [], ◌∷◌, All, length, get_or, take, drop, Option, Some, None}
+use Rattle.std.proofs.Common.{FitsSigned, refl, sym, ap, subst, inl, inr}
 use Rattle.std.specs.Prelude.{IfSome, if◌then◌else◌, nat_le, ◌==◌}
 use Rattle.std.specs.Int.{Width, byte_len, cast_signed, from_be_bytes, w32, w64}
 use Rattle.std.specs.List.Sorted.{IsPermutation}
@@ -14,7 +15,12 @@ use Rattle.tierra_model.specs.declared.parameters.Settings.{Settings}
 use Rattle.tierra_model.specs.World.{Saving as ModelSaving}
 use Rattle.world_state.specs.declared.fields.Found.{Found}
 use Rattle.world_state.specs.declared.saving.Saving.{Saving}
-use Rattle.world_state.specs.Reading.{Counts, CreatureParts, Details, FoundParts, Processor, Registers, SavingParts, Stack, StateParts, ◌>>=◌, block_at, block_from, body_at, both, byte_at, cells_at, counts_at, creature_at, creature_from, daughter_at, daughter_from, details_at, effort_at, effort_from, efforts_at, eight_at, eights_at, found_at, found_from, four_at, four_eights_at, fours_at, founds_at, genotype_of, line_at, list_at, made, number_at, only, only_if, parent_at, parent_from, piece_at, processor_at, register_at, registers_at, saving_at, saving_from, savings_at, second, sized_at, stack_at, state_at, two_registers_at}
+use Rattle.world_state.specs.Reading.{Counts, CreatureParts, Details, FoundParts, Processor, Registers, SavingParts, Stack, StateParts, ◌>>=◌, block_at}
+use Rattle.world_state.specs.Reading.{block_from, body_at, both, byte_at, cells_at, counts_at, creature_at, creature_from, daughter_at, daughter_from}
+use Rattle.world_state.specs.Reading.{details_at, effort_at, effort_from, efforts_at, eight_at, eights_at, found_at, found_from, four_at, four_eights_at}
+use Rattle.world_state.specs.Reading.{fours_at, founds_at, genotype_of, line_at, list_at, made, number_at, only, only_if, parent_at, parent_from, piece_at}
+use Rattle.world_state.specs.Reading.{processor_at, register_at, registers_at, saving_at, saving_from, savings_at, second, sized_at, stack_at, state_at}
+use Rattle.world_state.specs.Reading.{two_registers_at}
 use Rattle.world_state.specs.Restoring.{FitsTypes, HasLongNumbers, HasWords, IsLongEffort}
 use Rattle.world_state.specs.Savings.{saving_of}
 use Rattle.world_state.proofs.FieldsBack.{Long, Short}

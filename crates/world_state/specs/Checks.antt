@@ -1,6 +1,7 @@
 -- Tests of a world's parts, each for a condition of soundness.
 use Rattle.std.specs.List.{flat_map, list_all}
-use Rattle.std.specs.Prelude.{Bool, List, None, Option, Some, [], false, if◌then◌else◌, length, nat_le, nat_lt, option_to_list, slice_index_or, true, ℕ, ◌&&◌, ◌+◌, ◌==◌, ◌^◌, ◌∷◌}
+use Rattle.std.specs.Prelude.{Bool, List, None, Option, Some, [], false, if◌then◌else◌, length, nat_le, nat_lt}
+use Rattle.std.specs.Prelude.{option_to_list, slice_index_or, true, ℕ, ◌&&◌, ◌+◌, ◌==◌, ◌^◌, ◌∷◌}
 use Rattle.tierra_model.specs.declared.limits.TheConstants.{MOST_SIZE}
 use Rattle.tierra_model.specs.declared.creatures.Block.{Block}
 use Rattle.tierra_model.specs.declared.creatures.Creature.{Creature}

@@ -1,6 +1,7 @@
 -- Reading from left to right: a field gives a value and the bytes after it, or nothing.
 use Rattle.std.specs.Int.{Width, byte_len, cast_signed, from_be_bytes, w32, w64}
-use Rattle.std.specs.Prelude.{Bool, List, None, Option, Result, Ok, Err, Some, [], drop, false, if◌then◌else◌, length, map, nat_le, slice_index_or, suc, take, true, zero, ℕ, ℤ, ◌-◌, ◌==◌, ◌∷◌, ◌≡◌}
+use Rattle.std.specs.Prelude.{Bool, List, None, Option, Result, Ok, Err, Some, [], drop, false, if◌then◌else◌, length}
+use Rattle.std.specs.Prelude.{map, nat_le, slice_index_or, suc, take, true, zero, ℕ, ℤ, ◌-◌, ◌==◌, ◌∷◌, ◌≡◌}
 use Rattle.tierra_model.specs.declared.creatures.Block.{Block}
 use Rattle.tierra_model.specs.declared.creatures.Creature.{Creature}
 use Rattle.tierra_model.specs.declared.creatures.Effort.{Effort}

@@ -5,7 +5,8 @@ use Rattle.tierra_model.specs.declared.creatures.Creature.{Creature}
 use Rattle.tierra_model.specs.Counting.{one_if, times_in}
 use Rattle.tierra_model.specs.Living.{ids_of}
 use Rattle.tierra_model.specs.Ranges.{AreEfforts, IsCode}
-use Rattle.tierra_model.specs.Sound.{IsPlaced, Ordered, ParentsBelow, Rising, count_limit, numbers_of, owners, saved_size, times_coded}
+use Rattle.tierra_model.specs.Sound.{IsPlaced, Ordered, ParentsBelow, Rising, count_limit, numbers_of, owners}
+use Rattle.tierra_model.specs.Sound.{saved_size, times_coded}
 use Rattle.tierra_model.specs.World.{Genotype, Saving, World, genotype_at}
 
 -- how many there are, and how far the counts go

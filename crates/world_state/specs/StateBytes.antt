@@ -85,4 +85,5 @@ unfoldable pub savings_bytes : World → List ℕ
 savings_bytes w = eight (length w.saved) ++ flat_map saving_bytes w.saved
 
 unfoldable pub state_bytes : World → List ℕ
-state_bytes w = soup_bytes w ++ counts_bytes w ++ living_bytes w ++ reaper_bytes w ++ genotypes_bytes w ++ savings_bytes w
+state_bytes w =
+    soup_bytes w ++ counts_bytes w ++ living_bytes w ++ reaper_bytes w ++ genotypes_bytes w ++ savings_bytes w

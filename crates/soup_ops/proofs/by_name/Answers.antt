@@ -9,5 +9,6 @@ use Rattle.soup_ops.proofs.by_name.Goals as goal
 
 pub returns-clause-unknown : goal.returns-clause-unknown
 returns-clause-unknown c =
-    let found = find_from_yields_List (λ op. bytes_eq (name_of op) c.args.word.now) _ _ c.find.result c.find.ensures.ran (YieldsList-from_slice ops cc) (λ x b q k. search (rules, tests)) in
+    let found = find_from_yields_List (λ op. bytes_eq (name_of op) c.args.word.now) _ _ c.find.result c.find.ensures.ran (YieldsList-from_slice ops cc)
+    (λ x b q k. search (rules, tests)) in
     rw (c.copied.ensures ∙ found) (find_none (λ op. bytes_eq (name_of op) c.args.word.now) ops)

@@ -11,15 +11,18 @@ loop-at-preserved c =
 
 pub loop-event-init : goal.loop-event-init
 loop-event-init c =
-    cells-forgotten c.args.cells.now (λ p. list_any (writes p) c.args.events.now) c.loop-at.at-index c.loop-at.marks.items c.loop-at-test.false c.loop-at.invariant
+    cells-forgotten c.args.cells.now (λ p. list_any (writes p) c.args.events.now) c.loop-at.at-index c.loop-at.marks.items c.loop-at-test.false
+    c.loop-at.invariant
 
 pub loop-event-preserved : goal.loop-event-preserved
 loop-event-preserved c = elim c.match-event.branch [
   | in-Write w ↦
       rw (w.marks-is, w.forget_at-in-Write.ensures)
-      (forget-write c.args.events.now c.loop-event.event-index w.in-Write.at w.in-Write.value _ c.loop-event.marks.items c.loop-event-test.true w.in-Write.is c.loop-event.invariant)
+      (forget-write c.args.events.now c.loop-event.event-index w.in-Write.at w.in-Write.value _ c.loop-event.marks.items c.loop-event-test.true w.in-Write.is
+      c.loop-event.invariant)
   | in_default w ↦
-      rw w.marks-is (forget-none c.args.events.now c.loop-event.event-index _ c.loop-event.marks.items c.loop-event-test.true w.in_default.not-Write c.loop-event.invariant)
+      rw w.marks-is (forget-none c.args.events.now c.loop-event.event-index _ c.loop-event.marks.items c.loop-event-test.true w.in_default.not-Write
+      c.loop-event.invariant)
 ]
 
 pub returns : goal.returns

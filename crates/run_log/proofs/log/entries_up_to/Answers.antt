@@ -7,5 +7,6 @@ use Rattle.run_log.proofs.log.entries_up_to.Goals as goal
 
 pub returns-clause-parted : goal.returns-clause-parted
 returns-clause-parted c =
-    IsPartitionPoint-from_clause (λ (e : Entry). nat_le (quantum_of e.note) c.args.quantum) c.args.entries.now c.partition_point.result c.partition_point.ensures.partitioned
+    IsPartitionPoint-from_clause (λ (e : Entry). nat_le (quantum_of e.note) c.args.quantum) c.args.entries.now c.partition_point.result
+    c.partition_point.ensures.partitioned
     (IsPartitionedBy-leb (λ (e : Entry). quantum_of e.note) c.args.entries.now c.args.quantum c.requires) (λ a r f h. search rules)

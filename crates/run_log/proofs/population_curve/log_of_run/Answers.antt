@@ -46,29 +46,35 @@ loop-before-init c =
 
 pub note_quantum-requires-clause-sound : goal.note_quantum-requires-clause-sound
 note_quantum-requires-clause-sound c =
-    let at = is-at c.args.setup.now c.loop-before.before c.loop-before.run c.count_of-inoculated.ensures.setup (omega (arith, c.loop-before-test.true, c.requires)) c.loop-before.invariant.run in
+    let at = is-at c.args.setup.now c.loop-before.before c.loop-before.run c.count_of-inoculated.ensures.setup
+    (omega (arith, c.loop-before-test.true, c.requires)) c.loop-before.invariant.run in
     at.sound
 
 pub note_quantum-requires-clause-quantum : goal.note_quantum-requires-clause-quantum
 note_quantum-requires-clause-quantum c =
-    let at = is-at c.args.setup.now c.loop-before.before c.loop-before.run c.count_of-inoculated.ensures.setup (omega (arith, c.loop-before-test.true, c.requires)) c.loop-before.invariant.run in
+    let at = is-at c.args.setup.now c.loop-before.before c.loop-before.run c.count_of-inoculated.ensures.setup
+    (omega (arith, c.loop-before-test.true, c.requires)) c.loop-before.invariant.run in
     omega (arith, at.quanta)
 
 pub note_quantum-requires-clause-numbers : goal.note_quantum-requires-clause-numbers
 note_quantum-requires-clause-numbers c =
-    let at = is-at c.args.setup.now c.loop-before.before c.loop-before.run c.count_of-inoculated.ensures.setup (omega (arith, c.loop-before-test.true, c.requires)) c.loop-before.invariant.run in
+    let at = is-at c.args.setup.now c.loop-before.before c.loop-before.run c.count_of-inoculated.ensures.setup
+    (omega (arith, c.loop-before-test.true, c.requires)) c.loop-before.invariant.run in
     omega (arith, at.tracks.next_birth, c.count_of-inoculated.ensures.count, start-count c.args.setup.now)
 
 pub note_quantum-requires-clause-noted : goal.note_quantum-requires-clause-noted
 note_quantum-requires-clause-noted c =
-    let at = is-at c.args.setup.now c.loop-before.before c.loop-before.run c.count_of-inoculated.ensures.setup (omega (arith, c.loop-before-test.true, c.requires)) c.loop-before.invariant.run in
+    let at = is-at c.args.setup.now c.loop-before.before c.loop-before.run c.count_of-inoculated.ensures.setup
+    (omega (arith, c.loop-before-test.true, c.requires)) c.loop-before.invariant.run in
     let run = c.loop-before.invariant in
-    turn-living (length (start c.args.setup.now).living) c.loop-before.before c.loop-before.log.inoculated (run_records c.args.setup.now c.loop-before.before) c.loop-before.log.records
+    turn-living (length (start c.args.setup.now).living) c.loop-before.before c.loop-before.log.inoculated (run_records c.args.setup.now c.loop-before.before)
+    c.loop-before.log.records
     c.loop-before.living.items c.loop-before.run at.tracks run.inoculated run.records run.living
 
 pub note_quantum-requires-clause-order : goal.note_quantum-requires-clause-order
 note_quantum-requires-clause-order c =
-    turn-order c.args.setup.now c.loop-before.before c.loop-before.log.records c.count_of-inoculated.ensures.setup (omega (arith, c.loop-before-test.true, c.requires))
+    turn-order c.args.setup.now c.loop-before.before c.loop-before.log.records c.count_of-inoculated.ensures.setup
+    (omega (arith, c.loop-before-test.true, c.requires))
     c.loop-before.invariant.records
 
 pub loop-before-preserved : goal.loop-before-preserved

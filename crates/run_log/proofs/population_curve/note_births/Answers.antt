@@ -29,7 +29,8 @@ loop-id-preserved c =
     record {
       inoculated = inoculated ∙ c.loop-id.invariant.inoculated;
       living = pushed ∙ born-next c.args.first c.loop-id.id c.args.living.now.items c.loop-id.living.items (omega arith) c.loop-id.invariant.living;
-      records = records ∙ births-next c.args.quantum c.args.first c.loop-id.id c.args.log.now.records c.loop-id.log.records (omega arith) c.loop-id.invariant.records;
+      records = records ∙ births-next c.args.quantum c.args.first c.loop-id.id c.args.log.now.records c.loop-id.log.records (omega arith)
+          c.loop-id.invariant.records;
       same = pushed ∙ ap (λ (xs : List ℕ). xs ++ c.loop-id.id ∷ []) c.loop-id.invariant.same
           ∙ sym (ap (λ n. living_in n c.born.new.self.records) inoculated ∙ ap (living_in c.loop-id.log.inoculated) records
           ∙ living-push c.loop-id.log.inoculated c.loop-id.log.records (Birth c.args.quantum c.loop-id.id));

@@ -35,8 +35,10 @@ pub keep_or_note-requires-clause-present : goal.keep_or_note-requires-clause-pre
 keep_or_note-requires-clause-present c =
     let xs : List ℕ = c.args.living.now in
     let id : ℕ = get_or xs c.loop-id.id-index 0 in
-    present-next (lives c.args.run.now) c.args.quantum c.loop-id.id-index id xs c.loop-id.left.items c.loop-id.log.inoculated c.args.log.now.records c.loop-id.log.records
-    c.loop-id-test.true (sym (get_or_default_zero xs c.loop-id.id-index id c.loop-id-test.true)) c.requires.once c.loop-id.invariant.left c.loop-id.invariant.same c.loop-id.invariant.records
+    present-next (lives c.args.run.now) c.args.quantum c.loop-id.id-index id xs c.loop-id.left.items c.loop-id.log.inoculated c.args.log.now.records
+    c.loop-id.log.records
+    c.loop-id-test.true (sym (get_or_default_zero xs c.loop-id.id-index id c.loop-id-test.true)) c.requires.once c.loop-id.invariant.left
+    c.loop-id.invariant.same c.loop-id.invariant.records
 
 pub loop-id-preserved : goal.loop-id-preserved
 loop-id-preserved c =
@@ -50,9 +52,12 @@ loop-id-preserved c =
     record {
       inoculated = inoculated ∙ c.loop-id.invariant.inoculated;
       left = left-next (lives c.args.run.now) c.args.quantum i id xs c.loop-id.left.items c.loop-id.log.inoculated c.args.log.now.records c.loop-id.log.records
-          c.loop-id-test.true item c.requires.once c.loop-id.invariant.left c.loop-id.invariant.same c.loop-id.invariant.records c.keep_or_note.new.left.items kept;
-      records = records-next (lives c.args.run.now) c.args.quantum i id xs c.loop-id.left.items c.loop-id.log.inoculated c.args.log.now.records c.loop-id.log.records
-          c.loop-id-test.true item c.requires.once c.loop-id.invariant.left c.loop-id.invariant.same c.loop-id.invariant.records c.keep_or_note.new.log.records noted;
+          c.loop-id-test.true item c.requires.once c.loop-id.invariant.left c.loop-id.invariant.same c.loop-id.invariant.records c.keep_or_note.new.left.items
+          kept;
+      records = records-next (lives c.args.run.now) c.args.quantum i id xs c.loop-id.left.items c.loop-id.log.inoculated c.args.log.now.records
+          c.loop-id.log.records
+          c.loop-id-test.true item c.requires.once c.loop-id.invariant.left c.loop-id.invariant.same c.loop-id.invariant.records c.keep_or_note.new.log.records
+          noted;
       same = ap (λ n. living_in n c.keep_or_note.new.log.records) inoculated
           ∙ same-next (lives c.args.run.now) c.args.quantum i id xs c.loop-id.left.items c.loop-id.log.inoculated c.args.log.now.records c.loop-id.log.records
           c.loop-id-test.true item c.requires.once c.loop-id.invariant.left c.loop-id.invariant.same c.loop-id.invariant.records

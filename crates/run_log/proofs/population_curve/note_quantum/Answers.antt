@@ -42,14 +42,16 @@ note_deaths-requires-clause-order c =
 pub note_deaths-requires-clause-living : goal.note_deaths-requires-clause-living
 note_deaths-requires-clause-living c =
     let noted = c.in_ok-note_births.ensures in
-    living-after c.args.log.now.inoculated c.args.quantum c.args.log.now.records c.note_births.new.log.records c.args.living.items c.note_births.new.living.items _
+    living-after c.args.log.now.inoculated c.args.quantum c.args.log.now.records c.note_births.new.log.records c.args.living.items
+    c.note_births.new.living.items _
     c.requires.noted noted.records noted.living
     ∙ ap (λ (i : ℕ). living_in i c.note_births.new.log.records) (sym noted.inoculated)
 
 pub note_deaths-requires-clause-once : goal.note_deaths-requires-clause-once
 note_deaths-requires-clause-once c id =
     let turn = is-turn c.args.run.now c.next.new.self c.args.quantum c.requires.sound c.requires.quantum c.requires.more c.in_ok-next.ensures in
-    let seen = turn-lived c.args.inoculated c.births.result c.births-2.result c.args.run.now c.next.new.self c.args.living.items c.note_births.new.living.items turn
+    let seen = turn-lived c.args.inoculated c.births.result c.births-2.result c.args.run.now c.next.new.self c.args.living.items c.note_births.new.living.items
+    turn
     c.requires.numbers c.births.ensures c.births-2.ensures c.requires.living c.in_ok-note_births.ensures.living in
     subst (λ (l : List ℕ). times_in l id ≤ 1) (sym seen)
     (ordered-once 1 (lived_in c.args.run.now c.next.new.self) id (lived-ordered c.args.run.now c.next.new.self turn.sound_before turn.sound_after turn.later))
@@ -57,7 +59,8 @@ note_deaths-requires-clause-once c id =
 pub note_deaths-requires-clause-died : goal.note_deaths-requires-clause-died
 note_deaths-requires-clause-died c =
     let turn = is-turn c.args.run.now c.next.new.self c.args.quantum c.requires.sound c.requires.quantum c.requires.more c.in_ok-next.ensures in
-    let seen = turn-lived c.args.inoculated c.births.result c.births-2.result c.args.run.now c.next.new.self c.args.living.items c.note_births.new.living.items turn
+    let seen = turn-lived c.args.inoculated c.births.result c.births-2.result c.args.run.now c.next.new.self c.args.living.items c.note_births.new.living.items
+    turn
     c.requires.numbers c.births.ensures c.births-2.ensures c.requires.living c.in_ok-note_births.ensures.living in
     let dead : length (dead_in c.args.run.now c.next.new.self) ≡ c.deaths.result - c.deaths-dead.result =
     omega (arith, deaths-counted c.args.run.now c.next.new.self turn.sound_before turn.sound_after turn.later, c.deaths-dead.ensures, c.deaths.ensures) in
@@ -66,9 +69,11 @@ note_deaths-requires-clause-died c =
 pub returns-clause-living : goal.returns-clause-living
 returns-clause-living c =
     let turn = is-turn c.args.run.now c.next.new.self c.args.quantum c.requires.sound c.requires.quantum c.requires.more c.in_ok-next.ensures in
-    let seen = turn-lived c.args.inoculated c.births.result c.births-2.result c.args.run.now c.next.new.self c.args.living.items c.note_births.new.living.items turn
+    let seen = turn-lived c.args.inoculated c.births.result c.births-2.result c.args.run.now c.next.new.self c.args.living.items c.note_births.new.living.items
+    turn
     c.requires.numbers c.births.ensures c.births-2.ensures c.requires.living c.in_ok-note_births.ensures.living in
-    c.in_ok-left.ensures.living ∙ ap (filter (lives c.next.new.self)) seen ∙ survivors c.args.run.now c.next.new.self turn.sound_before turn.sound_after turn.later
+    c.in_ok-left.ensures.living ∙ ap (filter (lives c.next.new.self)) seen
+    ∙ survivors c.args.run.now c.next.new.self turn.sound_before turn.sound_after turn.later
 
 pub returns-clause-inoculated : goal.returns-clause-inoculated
 returns-clause-inoculated c = c.in_ok-left.ensures.inoculated ∙ c.in_ok-note_births.ensures.inoculated
@@ -76,7 +81,9 @@ returns-clause-inoculated c = c.in_ok-left.ensures.inoculated ∙ c.in_ok-note_b
 pub returns-clause-records : goal.returns-clause-records
 returns-clause-records c =
     let turn = is-turn c.args.run.now c.next.new.self c.args.quantum c.requires.sound c.requires.quantum c.requires.more c.in_ok-next.ensures in
-    let seen = turn-lived c.args.inoculated c.births.result c.births-2.result c.args.run.now c.next.new.self c.args.living.items c.note_births.new.living.items turn
+    let seen = turn-lived c.args.inoculated c.births.result c.births-2.result c.args.run.now c.next.new.self c.args.living.items c.note_births.new.living.items
+    turn
     c.requires.numbers c.births.ensures c.births-2.ensures c.requires.living c.in_ok-note_births.ensures.living in
-    turn-records c.args.quantum c.args.run.now c.next.new.self c.args.log.now.records c.note_births.new.log.records _ _ _ _ c.requires.living c.in_ok-note_births.ensures.records
+    turn-records c.args.quantum c.args.run.now c.next.new.self c.args.log.now.records c.note_births.new.log.records _ _ _ _ c.requires.living
+    c.in_ok-note_births.ensures.records
     c.in_ok-note_births.ensures.living c.in_ok-left.ensures.records seen

@@ -10,7 +10,8 @@ pub loop-place-preserved : goal.loop-place-preserved
 unfolding word
 loop-place-preserved c =
     let drawn : c.next_word.result ≡ word (seed_of c.args.number) 0 c.loop-place._place = search rules in
-    let made = made-more c.args.number c.loop-place._place c.loop-place.items.items c.move_of.result c.loop-place.invariant.0 (c.move_of.ensures.is ∙ ap move_of drawn) in
+    let made = made-more c.args.number c.loop-place._place c.loop-place.items.items c.move_of.result c.loop-place.invariant.0
+    (c.move_of.ensures.is ∙ ap move_of drawn) in
     let hands =
     subst (λ (ms : List Move). All IsOfHand ms) (sym c.in_ok-push.ensures.items)
     (All-push IsOfHand c.loop-place.items.items c.move_of.result c.loop-place.invariant.1 c.move_of.ensures.hand) in

@@ -15,13 +15,21 @@ divide-requires-clause-within c = subst InQuantum (sym c.put.ensures) c.requires
 pub divide-requires-clause-held : goal.divide-requires-clause-held
 divide-requires-clause-held c =
     subst (λ (e : Creature). IsSome e.daughter)
-    (sym (put_front c.args.creature.now c.args.sole.now c.put.new.self.world record { running = c.requires.within; fits = c.requires.fits; within = c.requires.quantum } c.put.ensures))
+    (sym (put_front c.args.creature.now c.args.sole.now c.put.new.self.world record {
+      running = c.requires.within;
+      fits = c.requires.fits;
+      within = c.requires.quantum;
+    } c.put.ensures))
     c.requires.held
 
 pub divide-requires-clause-ran : goal.divide-requires-clause-ran
 divide-requires-clause-ran c =
     subst (λ (e : Creature). 1 ≤ e.ran)
-    (sym (put_front c.args.creature.now c.args.sole.now c.put.new.self.world record { running = c.requires.within; fits = c.requires.fits; within = c.requires.quantum } c.put.ensures))
+    (sym (put_front c.args.creature.now c.args.sole.now c.put.new.self.world record {
+      running = c.requires.within;
+      fits = c.requires.fits;
+      within = c.requires.quantum;
+    } c.put.ensures))
     c.requires.ran
 
 pub begin_turn-requires : goal.begin_turn-requires

@@ -21,6 +21,7 @@ loop-dead-preserved c =
       quantum = still.quantum;
       settings = still.settings ∙ c.loop-dead.invariant.settings;
       left = ap (reap_times world_machine s (c.args.times - (c.loop-dead._dead + 1))) c.in_ok-reap-in-Some.ensures
-          ∙ sym (reap_times-some s (c.args.times - c.loop-dead._dead) (c.args.times - (c.loop-dead._dead + 1)) c.in-Some.place w (omega (arith, c.loop-dead-test.true)) victim)
+          ∙ sym (reap_times-some s (c.args.times - c.loop-dead._dead) (c.args.times - (c.loop-dead._dead + 1)) c.in-Some.place w
+          (omega (arith, c.loop-dead-test.true)) victim)
           ∙ c.loop-dead.invariant.left;
     }

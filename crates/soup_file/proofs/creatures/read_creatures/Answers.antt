@@ -15,7 +15,8 @@ there : (c : After-add_creature)
     → table_view c.table-item.result.now ≡ get_or (map (λ t. table_view t.now) c.args.tables.now) c.loop-table.table-index (table_view c.table-item.result.now)
 there c =
     ap (λ t. table_view t.now) c.table-item.is
-    ∙ sym (get_or-map (λ t. table_view t.now) c.args.tables.now c.loop-table.table-index c.table-item.result (table_view c.table-item.result.now) c.loop-table-test.true)
+    ∙ sym (get_or-map (λ t. table_view t.now) c.args.tables.now c.loop-table.table-index c.table-item.result (table_view c.table-item.result.now)
+    c.loop-table-test.true)
 
 pub returns-in_err-add_creature-clause-fault : goal.returns-in_err-add_creature-clause-fault
 returns-in_err-add_creature-clause-fault c =

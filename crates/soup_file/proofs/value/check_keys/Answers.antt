@@ -5,7 +5,8 @@ use Rattle.soup_file.proofs.value.check_keys.Goals as goal
 
 pub returns-in-None-clause-passed : goal.returns-in-None-clause-passed
 returns-in-None-clause-passed c =
-    no_unknown c.args.before.now c.args.known.now c.args.table.now.entries c.unknown_in.ensures.ordered (sym (ap option_copied c.in-None.is) ∙ c.unknown_in.ensures.first)
+    no_unknown c.args.before.now c.args.known.now c.args.table.now.entries c.unknown_in.ensures.ordered
+    (sym (ap option_copied c.in-None.is) ∙ c.unknown_in.ensures.first)
 
 pub returns-in_ok-joined-in-Some-clause-fault : goal.returns-in_ok-joined-in-Some-clause-fault
 returns-in_ok-joined-in-Some-clause-fault c =

@@ -50,4 +50,5 @@ returns-clause-held g c =
     let small : length c.in_ok-state.state < 2 ^ 31 = search rules in
     let are = subst (λ (o : Owner). AreBytesOf o.settings c.in_ok-state.state c.args.world.now.world) (sym owner) (own_bytes g at) in
     holds_next_of shelf c.args.shelf c.args.world.now.world old new c.in_ok-append.field-0 owner
-    (holds_next shelf c.args.world.now.world c.in_ok-state.state old new c.in_ok-append.field-0 c.in_ok-state.ensures.bytes are small c.in_ok-append.ensures.appended)
+    (holds_next shelf c.args.world.now.world c.in_ok-state.state old new c.in_ok-append.field-0 c.in_ok-state.ensures.bytes are small
+    c.in_ok-append.ensures.appended)

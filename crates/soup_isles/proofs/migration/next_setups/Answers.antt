@@ -12,5 +12,6 @@ loop-place-preserved c =
       c.in_ok-push.ensures.items
           ∙ (λ i. c.loop-place.invariant.0 i ++ c.in_ok-next_setup.ensures.next i ∷ [])
           ∙ sym (map-range_with_len_more f 0 k k (omega arith)),
-      rw c.in_ok-push.ensures.items (All-push IsSetup c.loop-place.items.items c.in_ok-next_setup.field-0 c.loop-place.invariant.1 c.in_ok-next_setup.ensures.setup),
+      rw c.in_ok-push.ensures.items (All-push IsSetup c.loop-place.items.items c.in_ok-next_setup.field-0 c.loop-place.invariant.1
+          c.in_ok-next_setup.ensures.setup),
     )

@@ -13,6 +13,7 @@ returns-in_ok-push-clause-setup c =
     let xs = c.args.creatures.now.items in
     let size : c.len.result ≡ length c.args.code = search rules in
     let fit : first_fit s.soup_size (is_settled xs) (length c.args.code) ≡ Some c.in-Some.at
-    = ap (λ (k : ℕ). first_fit s.soup_size (is_settled xs) k) (sym size) ∙ ap (λ (l : List Inoculum). first_fit s.soup_size (is_settled l) c.len.result) (sym c.deref.ensures.value) ∙ sym c.in_ok-at.ensures ∙ c.in-Some.is in
+    = ap (λ (k : ℕ). first_fit s.soup_size (is_settled xs) k) (sym size) ∙ ap (λ (l : List Inoculum). first_fit s.soup_size (is_settled l) c.len.result)
+    (sym c.deref.ensures.value) ∙ sym c.in_ok-at.ensures ∙ c.in-Some.is in
     subst (λ (l : List Inoculum). IsSetup (record { settings = s; creatures = l })) (sym c.in_ok-push.ensures.items)
     (joined-setup s xs c.args.code c.in-Some.at c.requires.setup c.requires.code fit)

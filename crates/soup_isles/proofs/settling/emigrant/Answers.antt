@@ -18,4 +18,5 @@ returns-clause-range c =
     let w = c.args.world.now.world in
     let x : Creature = c.front.result.now in
     let placed : IsPlaced w.settings.soup_size x = placed_front w x (running-sound w c.requires.sound) c.front.ensures in
-    subst (λ (s : Inoculum). IsCode s.code) (sym c.in_ok-settler.ensures) (code_of_block w.settings.soup_size w.soup x.own placed.own c.requires.sound.cells c.requires.sound.codes).0
+    subst (λ (s : Inoculum). IsCode s.code) (sym c.in_ok-settler.ensures)
+    (code_of_block w.settings.soup_size w.soup x.own placed.own c.requires.sound.cells c.requires.sound.codes).0

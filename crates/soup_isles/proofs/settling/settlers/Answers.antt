@@ -36,4 +36,5 @@ returns-clause-creatures c = all-settlers c
 pub returns-clause-setup : goal.returns-clause-setup
 returns-clause-setup c =
     let w = c.args.world.now.world in
-    subst (λ (l : List Inoculum). IsSetup (record { settings = w.settings; creatures = l })) (sym (returns-clause-creatures c)) (settlers-setup w c.requires.sound)
+    subst (λ (l : List Inoculum). IsSetup (record { settings = w.settings; creatures = l })) (sym (returns-clause-creatures c))
+    (settlers-setup w c.requires.sound)

@@ -1,7 +1,6 @@
-use Rattle.std.proofs.Common.{◌≡◌, sym, subst, ℕ, ◌<◌, List, Option, None, IfSome, Result, Ok, Err, IfOk, IfErr}
+use Rattle.std.proofs.Common.{◌≡◌, sym, subst, ℕ, ◌<◌, List, None, IfSome, Result, Ok, Err, IfOk, IfErr}
 use Rattle.std.proofs.lemmas.Option.{IfSome_then}
 use Rattle.desk_io.specs.Source.{SourceState}
-use Rattle.soup_words.specs.Orders.{IsInRange}
 use Rattle.soup_words.specs.declared.order.Action.{Action}
 use Rattle.soup_words.specs.declared.order.Action.TheVariants as action
 use Rattle.soup_words.specs.declared.order.Order.{Order}

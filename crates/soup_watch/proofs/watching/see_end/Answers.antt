@@ -26,6 +26,7 @@ returns-clause-sights g c =
       all,
     )
     in
-    let here = seen_one_more setup c.args.looks seen c.args.watched.sights.sights c.add.new.self.sights sight was.each was.count_is is quanta c.add.ensures.sights c.add.ensures.last in
+    let here = seen_one_more setup c.args.looks seen c.args.watched.sights.sights c.add.new.self.sights sight was.each was.count_is is quanta
+    c.add.ensures.sights c.add.ensures.last in
     all_seen setup n c.args.looks seen c.add.new.self.sights sight here c.add.ensures.order c.add.ensures.last
     (is ∙ ap (λ (k : ℕ). sight_of (serial setup k)) end)

@@ -17,5 +17,6 @@ out_of_range range given text low high default m n is of small fits spells out v
 pub returns-in-Ok-Some-clause-refused : goal.returns-in-Ok-Some-clause-refused
 returns-in-Ok-Some-clause-refused c = λ refused n value.
     let spelled = rw c.in-Ok-Some.field-0-is at c.in-Ok-Some.ensures in
-    out_of_range c.args.range (option_copied c.args.text) c.in-Some.text.now c.in-Some-range.low c.in-Some-range.high c.args.default c.in-Ok-Some.number n (cc) c.in-Some-range.is
+    out_of_range c.args.range (option_copied c.args.text) c.in-Some.text.now c.in-Some-range.low c.in-Some-range.high c.args.default c.in-Ok-Some.number n (cc)
+    c.in-Some-range.is
     spelled.0 c.within.ensures.fits spelled.1 (c.within.ensures.refused refused) value

@@ -18,7 +18,8 @@ unfolding clap_on_literals
 is_plain = refl
 
 -- what `get_str` gives is what the words give to the name
-given_is : (app : App) (words : List Text) (m : ArgMatches) (name : Text) (r : Option Text) → app ≡ tierra_app → HasMatchesOf app words m → r ≡ first_value (found_of m) name → r ≡ given words name
+given_is : (app : App) (words : List Text) (m : ArgMatches) (name : Text) (r : Option Text) → app ≡ tierra_app → HasMatchesOf app words m
+    → r ≡ first_value (found_of m) name → r ≡ given words name
 unfolding given
 given_is app words m name r is has got =
     got ∙ first_value-rows (found_of m) name ∙ ap (first_of name) ((has (ap is_simple is ∙ is_plain)).0 ∙ ap (λ (a : App). matches_of a words) is)

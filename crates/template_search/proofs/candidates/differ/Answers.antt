@@ -9,8 +9,10 @@ returns-in-Outward g c is =
 
 pub returns-in-Forward : goal.returns-in-Forward
 returns-in-Forward g c is =
-    rw c.in-Forward.is (candidate_differs _ _ _ _ _ c.in-Some.ensures.held c.in-Some.ensures.traceless _ _ c.requires.ahead (c.differs.ensures _ c.requires.opening is))
+    rw c.in-Forward.is (candidate_differs _ _ _ _ _ c.in-Some.ensures.held c.in-Some.ensures.traceless _ _ c.requires.ahead
+    (c.differs.ensures _ c.requires.opening is))
 
 pub returns-in-Backward : goal.returns-in-Backward
 returns-in-Backward g c is =
-    rw c.in-Backward.is (candidate_differs _ _ _ _ _ c.in-Some.ensures.held c.in-Some.ensures.traceless _ _ c.requires.behind (c.differs-in-Backward.ensures _ c.requires.opening is))
+    rw c.in-Backward.is (candidate_differs _ _ _ _ _ c.in-Some.ensures.held c.in-Some.ensures.traceless _ _ c.requires.behind
+    (c.differs-in-Backward.ensures _ c.requires.opening is))

@@ -12,6 +12,7 @@ loop-preserved g c = record {
   size = search rules;
   ahead = omega arith;
   behind = omega arith;
-  places = reaches_next _ _ _ _ _ _ _ _ (omega arith) c.previous_place-behind.ensures.below c.next_place-ahead.ensures.next c.previous_place-behind.ensures.previous c.loop.invariant.places;
+  places = reaches_next _ _ _ _ _ _ _ _ (omega arith) c.previous_place-behind.ensures.below c.next_place-ahead.ensures.next
+      c.previous_place-behind.ensures.previous c.loop.invariant.places;
   tried = search_goes_on _ _ _ _ _ _ _ _ _ c.loop.counter _ _ _ _ (omega arith) c.loop.invariant.places c.in_default.ensures.passes c.loop.invariant.tried;
 }

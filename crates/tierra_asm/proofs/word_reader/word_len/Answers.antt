@@ -7,5 +7,6 @@ use Rattle.tierra_asm.proofs.word_reader.word_len.Goals as goal
 
 pub returns : goal.returns
 returns c =
-    let first = position_from_yields_List ends_word _ _ c.position.result c.position.ensures.ran (YieldsList-from_slice c.args.bytes.now cc) (λ x b q k. search (rules, tests)) in
+    let first = position_from_yields_List ends_word _ _ c.position.result c.position.ensures.ran (YieldsList-from_slice c.args.bytes.now cc)
+    (λ x b q k. search (rules, tests)) in
     c.unwrap_or.ensures ∙ unwrap_or_position ends_word c.args.bytes.now c.position.result first

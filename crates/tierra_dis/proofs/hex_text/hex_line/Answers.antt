@@ -12,7 +12,9 @@ loop-index-preserved c =
     let pushed = c.in_ok-push_digits.ensures in
     elim c.if-index-gt0.branch [
       | then-index-gt0+in_ok-push w ↦
-          spell_more code c.loop-index.index text c.if-index-gt0.items.items more (omega arith) (omega arith) c.loop-index.invariant (ap (λ v. v.items) w.items-is ∙ w.in_ok-push.ensures.items) pushed
+          spell_more code c.loop-index.index text c.if-index-gt0.items.items more (omega arith)
+          (omega arith) c.loop-index.invariant (ap (λ v. v.items) w.items-is ∙ w.in_ok-push.ensures.items) pushed
       | else-index-gt0 w ↦
-          spell_first code c.loop-index.index text more (omega arith) (omega arith) c.loop-index.invariant (pushed ∙ ap (λ v. v.items ++ digits_of (get_or code c.loop-index.index 0)) w.items-is)
+          spell_first code c.loop-index.index text more (omega arith)
+          (omega arith) c.loop-index.invariant (pushed ∙ ap (λ v. v.items ++ digits_of (get_or code c.loop-index.index 0)) w.items-is)
     ]

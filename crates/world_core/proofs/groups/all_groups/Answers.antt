@@ -13,7 +13,8 @@ use Rattle.world_core.proofs.groups.all_groups.Goals.{After-run_end-end}
 -- the group of the savings that begin at the place comes first
 first : (c : After-run_end-end)
     → grouped c.args.genotypes.now.genotypes (savings_of (drop c.loop-at.at c.args.saved.now))
-    ≡ group_of c.args.genotypes.now.genotypes (quantum_of (slice_range c.args.saved.now c.loop-at.at c.run_end-end.result)) (savings_of (slice_range c.args.saved.now c.loop-at.at c.run_end-end.result))
+    ≡ group_of c.args.genotypes.now.genotypes (quantum_of (slice_range c.args.saved.now c.loop-at.at c.run_end-end.result))
+    (savings_of (slice_range c.args.saved.now c.loop-at.at c.run_end-end.result))
     ∷ grouped c.args.genotypes.now.genotypes (savings_of (drop c.run_end-end.result c.args.saved.now))
 first c =
     first-run c.args.genotypes.now.genotypes c.args.saved.now c.loop-at.at c.run_end-end.result c.run_end-end.ensures.within c.run_end-end.ensures.end

@@ -10,5 +10,6 @@ saved-requires-clause-known c =
     let xs = c.args.savings.now in
     let i = c.loop-saving.saving-index in
     let within : i < length (savings_of xs) = rw (length-map xs saving_of) c.loop-saving-test.true in
-    subst (λ (s : ModelSaving). s.genotype < length c.args.genotypes.now.genotypes) (get_or-map saving_of xs i no_saving (saving_of no_saving) c.loop-saving-test.true)
+    subst (λ (s : ModelSaving). s.genotype < length c.args.genotypes.now.genotypes)
+    (get_or-map saving_of xs i no_saving (saving_of no_saving) c.loop-saving-test.true)
     (c.requires.known i (saving_of no_saving) within)

@@ -10,7 +10,8 @@ use Rattle.world_core.proofs.living.born_before.Goals.{After-partition_point}
 parted : (c : After-partition_point)
     → IsPartitionPoint (λ (y : Creature). nat_lt y.id c.args.id ≡ true) (λ y. nat_lt y.id c.args.id ≡ false) c.args.creatures.now.items c.partition_point.result
 parted c =
-    IsPartitionPoint-from_clause (λ (y : Creature). nat_lt y.id c.args.id) c.args.creatures.now.items c.partition_point.result c.partition_point.ensures.partitioned
+    IsPartitionPoint-from_clause (λ (y : Creature). nat_lt y.id c.args.id) c.args.creatures.now.items c.partition_point.result
+    c.partition_point.ensures.partitioned
     (IsPartitionedBy-ltb (λ (x : Creature). x.id) c.args.creatures.now.items c.args.id c.requires) (λ a r f h. search rules)
 
 pub returns-clause-before : goal.returns-clause-before

@@ -20,7 +20,8 @@ returns-else-place-len-clause-none c =
     elim c.else-place-len.branch [
       | else-place-len-via-then-place-len+else-index-id w ↦ around (λ h.
           let at_least : c.args.id ≤ (get_or xs place nobody).id = c.born_before-place.ensures.behind place nobody (omega arith) h in
-          let same : w.index.result.now.id ≡ (get_or xs place nobody).id = ap (λ (x : Creature). x.id) (get_or_read xs place w.index.result.now h w.index.ensures nobody) in
+          let same : w.index.result.now.id ≡ (get_or xs place nobody).id =
+          ap (λ (x : Creature). x.id) (get_or_read xs place w.index.result.now h w.index.ensures nobody) in
           let other = w.if-index-id.false in
           omega arith)
       | else-place-len-via-else-place-len w ↦ around (λ h. (let past = w.if-place-len.false in absurd (omega arith)))

@@ -11,9 +11,11 @@ use Rattle.world_core.proofs.running.give_back_all.Goals as goal
 use Rattle.world_core.proofs.running.give_back_all.Goals.{After-give_back}
 
 -- what is free once the creature's own block is
-free_then : (c : After-give_back) → c.give_back.new.self.free ≡ runs_of c.give_back.new.self.size (λ p. is_in_some c.args.blocks.now.free p || is_in c.args.creature.now.own p)
+free_then : (c : After-give_back) → c.give_back.new.self.free
+    ≡ runs_of c.give_back.new.self.size (λ p. is_in_some c.args.blocks.now.free p || is_in c.args.creature.now.own p)
 free_then c =
-    c.give_back.ensures.free ∙ ap (λ (n : ℕ). runs_of n (λ p. is_in_some c.args.blocks.now.free p || is_in c.args.creature.now.own p)) (sym c.give_back.ensures.size)
+    c.give_back.ensures.free ∙ ap (λ (n : ℕ). runs_of n (λ p. is_in_some c.args.blocks.now.free p || is_in c.args.creature.now.own p))
+    (sym c.give_back.ensures.size)
 
 pub give_back_daughter-requires-clause-runs : goal.give_back_daughter-requires-clause-runs
 give_back_daughter-requires-clause-runs c = runs-again _ _ _ (free_then ((goal.at.give_back_daughter-requires-clause-runs c).After-give_back))
@@ -37,4 +39,5 @@ returns-clause-free c =
     c.give_back_daughter.ensures.free
     ∙ (λ i. runs_of (c.give_back.ensures.size i) (λ p. is_in_some (c.give_back.ensures.free i) p || is_in_daughter x.daughter p))
     ∙ runs_of-alike n (λ p. is_in_some (runs_of n (λ p. free p || is_in x.own p)) p || is_in_daughter x.daughter p) (λ p. free p || holds x p)
-    (λ q l. ap (λ (b : Bool). b || is_in_daughter x.daughter q) (runs_of_in n (λ p. free p || is_in x.own p) q l) ∙ regroup (free q) (is_in x.own q) (is_in_daughter x.daughter q))
+    (λ q l. ap (λ (b : Bool). b || is_in_daughter x.daughter q) (runs_of_in n (λ p. free p || is_in x.own p) q l)
+    ∙ regroup (free q) (is_in x.own q) (is_in_daughter x.daughter q))

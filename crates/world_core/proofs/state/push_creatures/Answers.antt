@@ -17,5 +17,6 @@ loop-k-preserved c =
     let one : c.in-Some.creature.now ≡ one_of w.living (get_or w.slicer k 0) = cc in
     c.in_ok-push_creature-in-Some.ensures
     ∙ (λ i. c.loop-k.invariant i ++ creature_bytes (one i))
-    ∙ append_assoc c.args.out.now.items (flat_map creature_bytes (map (one_of w.living) (take k w.slicer))) (creature_bytes (one_of w.living (get_or w.slicer k 0)))
+    ∙ append_assoc c.args.out.now.items (flat_map creature_bytes (map (one_of w.living) (take k w.slicer)))
+    (creature_bytes (one_of w.living (get_or w.slicer k 0)))
     ∙ ap (λ (l : List ℕ). c.args.out.now.items ++ l) (sym (bytes-more creature_bytes (one_of w.living) w.slicer k 0 within))

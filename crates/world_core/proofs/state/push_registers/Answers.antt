@@ -16,7 +16,8 @@ returns c =
     let start = c.args.out.now.items in
     let first : c.push_two_registers.new.out.items ≡ start ++ a
     = c.in_ok-push_two_registers.ensures ∙ (λ i. start ++ (register_bytes (ax i) ++ register_bytes (bx i))) in
-    elim c.push_two_registers-2.result as (λ r. OnOk r (c.push_two_registers-2.new.out.items ≡ c.push_two_registers.new.out.items ++ (register_bytes (told c.args.creature.now.cx) ++ register_bytes (told c.args.creature.now.dx)))
+    elim c.push_two_registers-2.result as (λ r. OnOk r (c.push_two_registers-2.new.out.items
+    ≡ c.push_two_registers.new.out.items ++ (register_bytes (told c.args.creature.now.cx) ++ register_bytes (told c.args.creature.now.dx)))
     → OnOk r (c.push_two_registers-2.new.out.items ≡ start ++ (a ++ b))) [
       | Ok x ↦ (λ e. e ∙ (λ i. first i ++ (register_bytes (cx i) ++ register_bytes (dx i))) ∙ append_assoc start a b)
       | Err e ↦ (λ h. h)

@@ -16,7 +16,8 @@ split xs i x h e = drop-cons xs i x h ∙ (λ j. (sym e j) ∷ drop (next j) xs)
 pub loop-inoculum-init : goal.loop-inoculum-init
 loop-inoculum-init c =
     let s = c.args.running.now.world.settings in (
-      subst (λ (w : World). Fills s c.args.creatures.now w) (sym c.requires.empty) (fills-none (record { settings = s; creatures = c.args.creatures.now }) c.requires.setup),
+      subst (λ (w : World). Fills s c.args.creatures.now w) (sym c.requires.empty)
+          (fills-none (record { settings = s; creatures = c.args.creatures.now }) c.requires.setup),
       refl,
     )
 
@@ -27,7 +28,8 @@ inoculate-requires-clause-can c =
     let x : Inoculum = c.inoculum-item.result in
     let left : drop i xs ≡ x ∷ drop (i + 1) xs = split xs i x (omega arith) c.inoculum-item.is in
     let fills = subst (λ (l : List Inoculum). Fills c.args.running.now.world.settings l c.loop-inoculum.running.world) left c.loop-inoculum.invariant.0 in
-    let can : CanInoculate c.loop-inoculum.running.world x.at x.code = fills-can c.args.running.now.world.settings x (drop (i + 1) xs) c.loop-inoculum.running.world fills in
+    let can : CanInoculate c.loop-inoculum.running.world x.at x.code =
+    fills-can c.args.running.now.world.settings x (drop (i + 1) xs) c.loop-inoculum.running.world fills in
     subst (λ (w : World). CanInoculate w x.at c.in_ok-code.code) (sym c.in_ok-reserve.ensures.world)
     (subst (λ (l : List ℕ). CanInoculate c.loop-inoculum.running.world x.at l) (sym c.in_ok-code.ensures) can)
 

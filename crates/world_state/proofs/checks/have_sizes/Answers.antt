@@ -7,7 +7,8 @@ pub returns-then-sum-ge-MOST : goal.returns-then-sum-ge-MOST
 returns-then-sum-ge-MOST c =
     passes-not (size_step c.args.founds.now) (c.loop-saving.quantum, c.loop-saving.sum) c.args.saved.now c.loop-saving.saving-index no_saving _
     c.loop-saving-test.true
-    (size-not c.args.founds.now (c.loop-saving.quantum, c.loop-saving.sum) (get_or c.args.saved.now c.loop-saving.saving-index no_saving) _ c.counted-sum.ensures c.if-sum-ge-MOST.true)
+    (size-not c.args.founds.now (c.loop-saving.quantum, c.loop-saving.sum) (get_or c.args.saved.now c.loop-saving.saving-index no_saving) _
+    c.counted-sum.ensures c.if-sum-ge-MOST.true)
     c.loop-saving.invariant.1
 
 pub loop-saving-preserved : goal.loop-saving-preserved
@@ -15,7 +16,8 @@ loop-saving-preserved c = (
   c.if-sum-ge-MOST.false,
   passes-on (size_step c.args.founds.now) (c.loop-saving.quantum, c.loop-saving.sum) _ c.args.saved.now c.loop-saving.saving-index no_saving _
       c.loop-saving-test.true
-      (size-on c.args.founds.now (c.loop-saving.quantum, c.loop-saving.sum) (get_or c.args.saved.now c.loop-saving.saving-index no_saving) _ c.counted-sum.ensures c.if-sum-ge-MOST.false)
+      (size-on c.args.founds.now (c.loop-saving.quantum, c.loop-saving.sum) (get_or c.args.saved.now c.loop-saving.saving-index no_saving) _
+      c.counted-sum.ensures c.if-sum-ge-MOST.false)
       c.loop-saving.invariant.1,
 )
 

@@ -14,5 +14,6 @@ loop-number-preserved c =
           (reached-one founds c.args.total n c.loop-number.numbers.items (subst (λ t. c.args.total ≤ t) total w.if-founds-number.true) c.loop-number.invariant)
       | else-founds-number w ↦
           subst (Reached founds c.args.total (n + 1)) (sym (ap (λ v. v.items) w.numbers-is))
-          (reached-other founds c.args.total n c.loop-number.numbers.items (subst (λ t. t < c.args.total) total w.if-founds-number.false) c.loop-number.invariant)
+          (reached-other founds c.args.total n c.loop-number.numbers.items (subst (λ t. t < c.args.total) total w.if-founds-number.false)
+          c.loop-number.invariant)
     ]

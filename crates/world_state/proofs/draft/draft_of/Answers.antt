@@ -19,7 +19,8 @@ invariant_of-result c =
     let line = c.in_ok-parts.parts.line.items in
     let living = c.in_ok-living.living.items in (
       c.in_ok-living.ensures.order,
-      λ id. ap (λ l. times_in l id) (c.in_ok-slicer.ensures ∙ ap ids_of c.deref.ensures.value) ∙ sym (times-permuted line living c.in_ok-living.ensures.same id),
+      λ id. ap (λ l. times_in l id) (c.in_ok-slicer.ensures ∙ ap ids_of c.deref.ensures.value)
+          ∙ sym (times-permuted line living c.in_ok-living.ensures.same id),
     )
 
 pub returns-clause-told : goal.returns-clause-told

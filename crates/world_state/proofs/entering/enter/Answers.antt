@@ -23,5 +23,6 @@ returns c =
     let r = c.enter_with-number.result in
     c.note-2.ensures
     ∙ ap (noted r 2 f.second_effort) (c.note.ensures ∙ ap (noted r 1 f.first_effort) c.enter_with-number.ensures.genotypes)
-    ∙ (λ i. noted (c.enter_with-number.ensures.number i) 2 f.second_effort (noted (c.enter_with-number.ensures.number i) 1 f.first_effort (gs ++ new_genotype (c.requires.code i) f.parent f.first_quantum f.total ∷ [])))
+    ∙ (λ i. noted (c.enter_with-number.ensures.number i) 2 f.second_effort
+    (noted (c.enter_with-number.ensures.number i) 1 f.first_effort (gs ++ new_genotype (c.requires.code i) f.parent f.first_quantum f.total ∷ [])))
     ∙ entered gs f

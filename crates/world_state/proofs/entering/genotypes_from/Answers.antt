@@ -28,7 +28,8 @@ loop-found-preserved c =
     one-taken c.args.founds.now k x c.loop-found-test.true ∙ ap (λ f. gs ++ genotype_of f ∷ []) (sym c.found-item.is) in
     let none : c.number_of.result ≡ None = search rules in
     let absent : times_coded gs x.code ≡ 0 =
-    ap (times_coded gs) (sym c.in_ok-code.ensures) ∙ coded-none code gs (ap (genotype_number code) (sym c.loop-found.invariant.0) ∙ sym c.number_of.ensures.number ∙ none) in (
+    ap (times_coded gs) (sym c.in_ok-code.ensures) ∙ coded-none code gs
+    (ap (genotype_number code) (sym c.loop-found.invariant.0) ∙ sym c.number_of.ensures.number ∙ none) in (
       c.enter.ensures ∙ ap (λ l. l ++ genotype_of x ∷ []) (c.in_ok-reserve.ensures.same ∙ c.loop-found.invariant.0) ∙ sym more,
       subst OnceCoded (sym more) (once-more gs (genotype_of x) c.loop-found.invariant.1 absent),
     )

@@ -13,7 +13,8 @@ pub returns-clause-held : goal.returns-clause-held
 returns-clause-held c p inside h =
     let n = c.self.inside in
     let here = c.as_slice.ensures.value in
-    let within : p < length n.marks.items = at_most n.marks.items n.version p c.args.self.now c.self.invariant.0 (ap (λ (v : CellsFields). v.now) c.self.view_is) inside in
+    let within : p < length n.marks.items =
+    at_most n.marks.items n.version p c.args.self.now c.self.invariant.0 (ap (λ (v : CellsFields). v.now) c.self.view_is) inside in
     ap (λ (l : List ℕ). slice_index l p) here
     ∙ told_here n.marks.items n.version n.reads.reads n.own n.daughter p c.self.invariant.0 within (subst (λ (l : List ℕ). slice_index l p < 32) here h)
     ∙ ap (λ (v : CellsFields). slice_index v.now p) c.self.view_is
@@ -21,6 +22,7 @@ returns-clause-held c p inside h =
 pub returns-clause-traceless : goal.returns-clause-traceless
 returns-clause-traceless c p inside h =
     let n = c.self.inside in
-    let within : p < length n.marks.items = at_most n.marks.items n.version p c.args.self.now c.self.invariant.0 (ap (λ (v : CellsFields). v.now) c.self.view_is) inside in
+    let within : p < length n.marks.items =
+    at_most n.marks.items n.version p c.args.self.now c.self.invariant.0 (ap (λ (v : CellsFields). v.now) c.self.view_is) inside in
     told_look n.marks.items n.version n.reads.reads n.own n.daughter p c.self.invariant.0 within c.args.self.now c.self.view_is
     (subst (λ (l : List ℕ). slice_index l p < 32) c.as_slice.ensures.value h)

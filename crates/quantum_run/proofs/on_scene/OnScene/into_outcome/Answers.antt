@@ -11,7 +11,8 @@ use Rattle.quantum_run.proofs.on_scene.OnScene.into_outcome.Goals as goal
 pub forget-requires : goal.forget-requires
 forget-requires c =
     let i = c.self.inside in
-    let x : SceneRun = run_from i.job.now i.front i.cells.now i.free.free i.yard.items i.cells.reads.cells i.free_noted i.yard_noted i.events.items i.newborns in
+    let x : SceneRun =
+    run_from i.job.now i.front i.cells.now i.free.free i.yard.items i.cells.reads.cells i.free_noted i.yard_noted i.events.items i.newborns in
     let r = subst (λ (v : SceneFields). SceneReady v 0) (sym c.self.view_is) c.requires.ready in
     let cells : c.cells.result.now ≡ i.cells.reads.cells = c.cells.ensures ∙ ap (λ (n : Reads). n.cells) c.into_parts-reads.ensures.reads in
     let events : c.deref.result.now ≡ i.events.items = c.deref.ensures.value in

@@ -17,12 +17,21 @@ begin-requires-2 c =
     record {
       runs = subst (λ (k : ℕ). AreRuns 0 k c.free.result.now) (sym same)
           (subst (λ (l : List Block). AreRuns 0 scene.settings.soup_size l) (sym c.free.ensures) (free_runs scene c.settings.ensures.sound));
-      few = omega (arith, ap length c.free.ensures, free_few scene c.settings.ensures.sound, scene.settings.soup, ap length c.standings.ensures.yard, c.standings.ensures.few, c.requires.few);
+      few = omega (
+        arith,
+        ap length c.free.ensures,
+        free_few scene c.settings.ensures.sound,
+        scene.settings.soup,
+        ap length c.standings.ensures.yard,
+        c.standings.ensures.few,
+        c.requires.few,
+      );
     }
 
 pub begin-requires-3 : goal.begin-requires-3
 begin-requires-3 c =
-    let size : length c.cells.result.now ≡ c.args.job.now.settings.soup_size = ap length c.cells.ensures.cells ∙ soup_sized c.args.job.now c.settings.ensures.sound in
+    let size : length c.cells.result.now ≡ c.args.job.now.settings.soup_size =
+    ap length c.cells.ensures.cells ∙ soup_sized c.args.job.now c.settings.ensures.sound in
     record {
       size = c.requires.size ∙ sym size;
       fresh = c.requires.fresh;
@@ -60,8 +69,12 @@ returns-clause-ready c =
     let events : length scene.yard + m ≤ er = omega (arith, living, few, slice, c.in_ok-lists.ensures.len, c.in_ok-lists.ensures.events) in
     let standings : m ≤ yr = omega (arith, slice, c.in_ok-yard.ensures.room) in
     let blocks : 2 * length scene.yard + m ≤ br = omega (arith, living, few, slice, c.in_ok-free.ensures.room) in
-    let end : fields_from scene scene.front (fresh_cells scene.soup scene.front.own scene.front.daughter) (let z : BlocksFields = record { size = c.in_ok-free.free.size; free = scene.free; spare = br } in z) scene.yard false false [] 0 er yr
-    ≡ fields_from scene c.front-front.result.now c.begin-3.result c.in_ok-free.free c.in_ok-yard.yard.items false false c.in_ok-lists.lists.events.items 0 er yr =
-    (λ j. fields_from scene (sym front j) (sym cells j) (let z : BlocksFields = record { size = c.in_ok-free.free.size; free = sym free j; spare = br } in z) (sym yard j) false false (sym c.in_ok-lists.ensures.none j) 0 er yr) in
+    let end : fields_from scene scene.front (fresh_cells scene.soup scene.front.own scene.front.daughter) (let z : BlocksFields =
+    record { size = c.in_ok-free.free.size; free = scene.free; spare = br } in z) scene.yard false false [] 0 er yr
+    ≡ fields_from scene c.front-front.result.now c.begin-3.result c.in_ok-free.free c.in_ok-yard.yard.items false false c.in_ok-lists.lists.events.items 0 er
+    yr =
+    (λ j. fields_from scene (sym front j) (sym cells j) (let z : BlocksFields = record { size = c.in_ok-free.free.size; free = sym free j; spare = br } in
+    z) (sym yard j) false false (sym c.in_ok-lists.ensures.none j) 0 er yr) in
     subst (λ (v : SceneFields). SceneReady v m) end
-    (starts scene c.settings.ensures.sound (replicate (length scene.soup) false) c.in_ok-free.free.size er yr br m size refl (omega (arith, slice)) few events standings blocks)
+    (starts scene c.settings.ensures.sound (replicate (length scene.soup) false) c.in_ok-free.free.size er yr br m size refl (omega (arith, slice)) few events
+    standings blocks)

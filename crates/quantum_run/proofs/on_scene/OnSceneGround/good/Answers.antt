@@ -13,19 +13,24 @@ use Rattle.quantum_run.proofs.on_scene.OnSceneGround.good.Goals as goal
 pub returns-clause-state : goal.returns-clause-state
 returns-clause-state c =
     let i = c.self.inside in
-    let x : SceneRun = run_from i.job.now i.front i.cells.now i.free.free i.yard.items i.cells.reads.cells i.free_noted i.yard_noted i.events.items i.newborns in
-    happen x event.Good _ c.push_reserved.new.self.items i.newborns (good_now x.now x.newborns c.move_down.new.self.items c.move_down.ensures.items) c.push_reserved.ensures.items (omega arith)
+    let x : SceneRun =
+    run_from i.job.now i.front i.cells.now i.free.free i.yard.items i.cells.reads.cells i.free_noted i.yard_noted i.events.items i.newborns in
+    happen x event.Good _ c.push_reserved.new.self.items i.newborns (good_now x.now x.newborns c.move_down.new.self.items c.move_down.ensures.items)
+    c.push_reserved.ensures.items (omega arith)
     ∙ ap (λ (v : SceneFields). scene_machine.apply v.run event.Good) c.self.view_is
 
 pub returns-clause-ready : goal.returns-clause-ready
 returns-clause-ready c = λ n h.
     let i = c.self.inside in
-    let x : SceneRun = run_from i.job.now i.front i.cells.now i.free.free i.yard.items i.cells.reads.cells i.free_noted i.yard_noted i.events.items i.newborns in
+    let x : SceneRun =
+    run_from i.job.now i.front i.cells.now i.free.free i.yard.items i.cells.reads.cells i.free_noted i.yard_noted i.events.items i.newborns in
     let r = subst (λ (v : SceneFields). SceneReady v (n + 1)) (sym c.self.view_is) h in
     let moved = c.move_down.ensures.items in
-    let long : length c.move_down.new.self.items ≡ length i.yard.items = ap length moved ∙ length-good_move (λ x. Unit {0}) (is_standing_of i.front) (λ x. x.errors) i.yard.items in
+    let long : length c.move_down.new.self.items ≡ length i.yard.items =
+    ap length moved ∙ length-good_move (λ x. Unit {0}) (is_standing_of i.front) (λ x. x.errors) i.yard.items in
     ready-event event.Good _ _ (n + 1) n (λ p. refl) r (record {
-      run = happen x event.Good _ c.push_reserved.new.self.items i.newborns (good_now x.now x.newborns c.move_down.new.self.items moved) c.push_reserved.ensures.items (omega arith);
+      run = happen x event.Good _ c.push_reserved.new.self.items i.newborns (good_now x.now x.newborns c.move_down.new.self.items moved)
+          c.push_reserved.ensures.items (omega arith);
       happens = tt;
       start = refl;
       soup = refl;
@@ -33,7 +38,8 @@ returns-clause-ready c = λ n h.
       size = refl;
       own = r.own;
       daughter = r.daughter;
-      yard = subst (λ (l : List Standing). Each (IsShown i.free.size i.front) l) (sym moved) (each-good_move (IsShown i.free.size i.front) (is_standing_of i.front) (λ x. x.errors) i.yard.items r.yard);
+      yard = subst (λ (l : List Standing). Each (IsShown i.free.size i.front) l) (sym moved)
+          (each-good_move (IsShown i.free.size i.front) (is_standing_of i.front) (λ x. x.errors) i.yard.items r.yard);
       front = front_fewer i.free.size n (n + 1) i.front (omega arith) r.front;
       newborns = omega (arith, r.newborns);
       few = omega (arith, r.few, long);

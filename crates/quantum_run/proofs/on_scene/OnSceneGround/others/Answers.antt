@@ -9,7 +9,8 @@ use Rattle.quantum_run.proofs.on_scene.OnSceneGround.others.Goals as goal
 pub overflow_sub-result : goal.overflow_sub-result
 overflow_sub-result c =
     let i = c.self.inside in
-    let x : SceneRun = run_from i.job.now i.front i.cells.now i.free.free i.yard.items i.cells.reads.cells i.free_noted i.yard_noted i.events.items i.newborns in
+    let x : SceneRun =
+    run_from i.job.now i.front i.cells.now i.free.free i.yard.items i.cells.reads.cells i.free_noted i.yard_noted i.events.items i.newborns in
     let r = subst (λ (v : SceneFields). SceneReady v 0) (sym c.self.view_is) c.requires in
     let len : length c.items.result.now ≡ length i.yard.items = ap length c.items.ensures in
     omega (arith, others_count x r.shadows, len)
@@ -17,7 +18,8 @@ overflow_sub-result c =
 pub returns : goal.returns
 returns c =
     let i = c.self.inside in
-    let x : SceneRun = run_from i.job.now i.front i.cells.now i.free.free i.yard.items i.cells.reads.cells i.free_noted i.yard_noted i.events.items i.newborns in
+    let x : SceneRun =
+    run_from i.job.now i.front i.cells.now i.free.free i.yard.items i.cells.reads.cells i.free_noted i.yard_noted i.events.items i.newborns in
     let r = subst (λ (v : SceneFields). SceneReady v 0) (sym c.self.view_is) c.requires in
     let len : length c.items.result.now ≡ length i.yard.items = ap length c.items.ensures in
     let is : length c.items.result.now - 1 ≡ number_of_others x.now.front.id (scene_machine.reaper x) = omega (arith, others_count x r.shadows, len) in

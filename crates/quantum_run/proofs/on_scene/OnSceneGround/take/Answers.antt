@@ -27,7 +27,8 @@ is_free false h = cc
 pub take-requires-clause-free : goal.take-requires-clause-free
 take-requires-clause-free c = λ p here.
     let i = c.self.inside in
-    let x : SceneRun = run_from i.job.now i.front i.cells.now i.free.free i.yard.items i.cells.reads.cells i.free_noted i.yard_noted i.events.items i.newborns in
+    let x : SceneRun =
+    run_from i.job.now i.front i.cells.now i.free.free i.yard.items i.cells.reads.cells i.free_noted i.yard_noted i.events.items i.newborns in
     let b : Block = c.args.block in
     let room : room_for i.job.now.settings (λ p. not (is_in_some i.free.free p)) b.size ≡ Some b.at =
     ap (λ (v : SceneFields). room_for v.run.start.settings (scene_machine.owned v.run) b.size) c.self.view_is ∙ c.requires.room in
@@ -38,7 +39,8 @@ take-requires-clause-free c = λ p here.
 pub mal_done-requires-clause-inside : goal.mal_done-requires-clause-inside
 mal_done-requires-clause-inside c = λ taken is.
     let i = c.self.inside in
-    let x : SceneRun = run_from i.job.now i.front i.cells.now i.free.free i.yard.items i.cells.reads.cells i.free_noted i.yard_noted i.events.items i.newborns in
+    let x : SceneRun =
+    run_from i.job.now i.front i.cells.now i.free.free i.yard.items i.cells.reads.cells i.free_noted i.yard_noted i.events.items i.newborns in
     let b : Block = c.args.block in
     let room : room_for i.job.now.settings (λ p. not (is_in_some i.free.free p)) b.size ≡ Some b.at =
     ap (λ (v : SceneFields). room_for v.run.start.settings (scene_machine.owned v.run) b.size) c.self.view_is ∙ c.requires.room in
@@ -54,7 +56,8 @@ mal_done-requires-clause-errors c =
 pub returns-clause-state : goal.returns-clause-state
 returns-clause-state c =
     let i = c.self.inside in
-    let x : SceneRun = run_from i.job.now i.front i.cells.now i.free.free i.yard.items i.cells.reads.cells i.free_noted i.yard_noted i.events.items i.newborns in
+    let x : SceneRun =
+    run_from i.job.now i.front i.cells.now i.free.free i.yard.items i.cells.reads.cells i.free_noted i.yard_noted i.events.items i.newborns in
     let b : Block = c.args.block in
     let d : Creature = c.mal_done.new.creature in
     let his : d ≡ record_after (event.Mal b.at b.size) i.front = c.mal_done.ensures.taken in
@@ -62,14 +65,17 @@ returns-clause-state c =
     let r = subst (λ (v : SceneFields). SceneReady v 1) (sym c.self.view_is) c.requires.ready in
     let frees : c.take.new.self.free ≡ runs_of i.job.now.settings.soup_size (λ p. is_in_some i.free.free p && not (is_in b p)) =
     c.take.ensures.free ∙ ap (λ (k : ℕ). runs_of k (λ p. is_in_some i.free.free p && not (is_in b p))) r.size in
-    ap (λ (z : CellsFields). run_from i.job.now d z.now c.take.new.self.free c.show.new.self.items z.reads.cells i.free_noted i.yard_noted c.push_reserved.new.self.items i.newborns) c.set_daughter.ensures
-    ∙ happen x (event.Mal b.at b.size) _ c.push_reserved.new.self.items i.newborns (take_now x.now x.newborns b d c.take.new.self.free c.show.new.self.items his frees c.show.ensures.items) c.push_reserved.ensures.items (omega arith)
+    ap (λ (z : CellsFields). run_from i.job.now d z.now c.take.new.self.free c.show.new.self.items z.reads.cells i.free_noted i.yard_noted
+    c.push_reserved.new.self.items i.newborns) c.set_daughter.ensures
+    ∙ happen x (event.Mal b.at b.size) _ c.push_reserved.new.self.items i.newborns
+    (take_now x.now x.newborns b d c.take.new.self.free c.show.new.self.items his frees c.show.ensures.items) c.push_reserved.ensures.items (omega arith)
     ∙ ap (λ (v : SceneFields). scene_machine.apply v.run (event.Mal b.at b.size)) c.self.view_is
 
 pub returns-clause-ready : goal.returns-clause-ready
 returns-clause-ready c = λ n h.
     let i = c.self.inside in
-    let x : SceneRun = run_from i.job.now i.front i.cells.now i.free.free i.yard.items i.cells.reads.cells i.free_noted i.yard_noted i.events.items i.newborns in
+    let x : SceneRun =
+    run_from i.job.now i.front i.cells.now i.free.free i.yard.items i.cells.reads.cells i.free_noted i.yard_noted i.events.items i.newborns in
     let b : Block = c.args.block in
     let d : Creature = c.mal_done.new.creature in
     let his : d ≡ record_after (event.Mal b.at b.size) i.front = c.mal_done.ensures.taken in
@@ -84,15 +90,27 @@ returns-clause-ready c = λ n h.
     let none : i.front.daughter ≡ None = ap (λ (v : SceneFields). v.run.now.front.daughter) c.self.view_is ∙ c.requires.none in
     let lies : IsBlock i.free.size b = (c.requires.one, c.requires.few, omega (arith, fits.0, r.size)) in
     let e : Creature = record_after (event.Mal b.at b.size) i.front in
-    let place : StandsIn i.free.size (standing d) = subst (λ (a : Creature). StandsIn i.free.size (standing a)) (sym his) (record { own = f.own; daughter = lies }) in
+    let place : StandsIn i.free.size (standing d) = subst (λ (a : Creature). StandsIn i.free.size (standing a)) (sym his)
+    (record { own = f.own; daughter = lies }) in
     let ready : FrontReady i.free.size n d = subst (FrontReady i.free.size n) (sym his)
-    (record { ip = f.ip; sp = f.sp; own = f.own; daughter = lies; errors = omega (arith, f.errors); moved = omega (arith, f.moved); ran = omega (arith, f.ran); bred = omega (arith, f.bred) }) in
+    (record {
+      ip = f.ip;
+      sp = f.sp;
+      own = f.own;
+      daughter = lies;
+      errors = omega (arith, f.errors);
+      moved = omega (arith, f.moved);
+      ran = omega (arith, f.ran);
+      bred = omega (arith, f.bred);
+    }) in
     let shown = c.show.ensures.items in
     let long : length c.show.new.self.items ≡ length i.yard.items = ap length shown ∙ length-show d i.yard.items in
-    subst (λ (z : CellsFields). SceneReady (fields_from i.job.now d z c.take.new.self c.show.new.self.items i.free_noted i.yard_noted c.push_reserved.new.self.items i.newborns
+    subst (λ (z : CellsFields). SceneReady (fields_from i.job.now d z c.take.new.self c.show.new.self.items i.free_noted i.yard_noted
+    c.push_reserved.new.self.items i.newborns
     (c.push_reserved.new.self.cap - c.push_reserved.new.self.len) (c.show.new.self.room)) n) (sym c.set_daughter.ensures)
     (ready-event (event.Mal b.at b.size) _ _ (n + 1) n (λ p. refl) r (record {
-      run = happen x (event.Mal b.at b.size) _ c.push_reserved.new.self.items i.newborns (take_now x.now x.newborns b d c.take.new.self.free c.show.new.self.items his frees c.show.ensures.items) c.push_reserved.ensures.items (omega arith);
+      run = happen x (event.Mal b.at b.size) _ c.push_reserved.new.self.items i.newborns
+          (take_now x.now x.newborns b d c.take.new.self.free c.show.new.self.items his frees c.show.ensures.items) c.push_reserved.ensures.items (omega arith);
       happens = (c.requires.one, c.requires.few, tt, none, room);
       start = refl;
       soup = refl;
@@ -101,7 +119,8 @@ returns-clause-ready c = λ n h.
       own = r.own ∙ sym (ap (λ (a : Creature). a.own) his);
       daughter = sym (ap (λ (a : Creature). a.daughter) his);
       yard = subst (λ (k : ℕ). Each (IsShown k d) c.show.new.self.items) (sym c.take.ensures.size)
-          (subst (λ (l : List Standing). Each (IsShown i.free.size d) l) (sym shown) (each-show i.free.size i.front d i.yard.items (ap (λ (a : Creature). a.id) his) place r.yard));
+          (subst (λ (l : List Standing). Each (IsShown i.free.size d) l) (sym shown)
+          (each-show i.free.size i.front d i.yard.items (ap (λ (a : Creature). a.id) his) place r.yard));
       front = subst (λ (k : ℕ). FrontReady k n d) (sym c.take.ensures.size) ready;
       newborns = omega (arith, r.newborns);
       few = omega (arith, r.few, long);

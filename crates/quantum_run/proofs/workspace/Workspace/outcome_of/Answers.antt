@@ -27,4 +27,5 @@ returns-clause-outcome g c =
     let is : y ≡ run_in_scene scene =
     ran_in_scene scene c.settings-settings.result.now c.quantum.result c.slice_of-slice.result c.front.result.now c.in_ok-scene.scene.run y
     c.settings-settings.ensures.settings c.quantum.ensures c.front.ensures c.slice_of-slice.ensures c.in_ok-scene.ensures.run c.in-Ok.ensures.state in
-    subst (λ (t : Scene). IsOutcome t c.into_outcome-outcome.result.0) (ap (λ (x : SceneRun). x.start) is ∙ start_is scene) c.into_outcome-outcome.ensures.outcome
+    subst (λ (t : Scene). IsOutcome t c.into_outcome-outcome.result.0)
+    (ap (λ (x : SceneRun). x.start) is ∙ start_is scene) c.into_outcome-outcome.ensures.outcome

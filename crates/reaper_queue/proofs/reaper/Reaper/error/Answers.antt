@@ -16,7 +16,8 @@ moved : (c : After-move_up) → c.move_up.new.entries.items ≡ error_move (is_o
 moved c =
     c.move_up.ensures.items
     ∙ ap (error_move (is_of c.args.id) errors_of)
-    (sym (raised-at c.self.inside.entries.items c.args.id c.find_place-place.result (here ((goal.at.invariant_of-self c).After-index)) c.index.result.now c.index.ensures))
+    (sym (raised-at c.self.inside.entries.items c.args.id c.find_place-place.result (here ((goal.at.invariant_of-self c).After-index)) c.index.result.now
+    c.index.ensures))
 
 pub overflow_add-errors : goal.overflow_add-errors
 overflow_add-errors c =
@@ -38,4 +39,5 @@ invariant_of-self c = (
 
 pub returns-clause-entries : goal.returns-clause-entries
 returns-clause-entries c =
-    moved c ∙ ap (λ (xs : List (ℕ × ℕ)). error_move (is_of c.args.id) errors_of (with_error c.args.id xs)) (entries-is ((goal.at.returns-clause-entries c).After-index))
+    moved c ∙ ap (λ (xs : List (ℕ × ℕ)). error_move (is_of c.args.id) errors_of (with_error c.args.id xs))
+    (entries-is ((goal.at.returns-clause-entries c).After-index))

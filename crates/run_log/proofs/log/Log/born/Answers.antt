@@ -13,7 +13,16 @@ overflow_add-last c =
     let living = ap (λ (p : Point). p.living) c.last-last.ensures in
     let inoculated = ap (λ (v : LogFields). v.inoculated) c.self.view_is in
     let long = ap (λ (v : LogFields). length v.records) c.self.view_is in
-    omega (arith, few, living, inoculated, long, length-map c.self.inside.entries.items (λ (x : Entry). x.note), c.self.invariant.few, c.self.inside.entries.ok.0)
+    omega (
+      arith,
+      few,
+      living,
+      inoculated,
+      long,
+      length-map c.self.inside.entries.items (λ (x : Entry). x.note),
+      c.self.invariant.few,
+      c.self.inside.entries.ok.0,
+    )
 
 pub invariant_of-self : goal.invariant_of-self
 invariant_of-self c =
@@ -21,5 +30,6 @@ invariant_of-self c =
     let inoculated : c.self.inside.inoculated ≡ v.inoculated = ap (λ (v : LogFields). v.inoculated) c.self.view_is in
     let records : records_of c.self.inside.entries.items ≡ v.records = ap (λ (v : LogFields). v.records) c.self.view_is in
     subst (IsKept c.self.inside.inoculated) (sym c.push_reserved.ensures.items)
-    (rw (inoculated) (kept-birth v c.self.inside.entries.items c.args.quantum c.args.id c.last-last.result (subst (λ n. IsKept n c.self.inside.entries.items) inoculated c.self.invariant)
+    (rw (inoculated) (kept-birth v c.self.inside.entries.items c.args.quantum c.args.id c.last-last.result
+    (subst (λ n. IsKept n c.self.inside.entries.items) inoculated c.self.invariant)
     records c.last-last.ensures c.requires.order c.requires.absent))

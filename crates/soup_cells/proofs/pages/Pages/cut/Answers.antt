@@ -14,7 +14,8 @@ loop-number-preserved c =
     let pushed : map page_cells c.push.new.self.items ≡ map page_cells c.loop-number.pages.items ++ slice_range cells start end ∷ [] =
     ap (map page_cells) c.in_ok-push.ensures.items
     ∙ map-append page_cells c.loop-number.pages.items (Own c.in_ok-from_slice.field-0 ∷ [])
-    ∙ ap (λ (page : List ℕ). map page_cells c.loop-number.pages.items ++ page ∷ []) {x = page_cells (Own c.in_ok-from_slice.field-0)} {y = slice_range cells start end} (search rules) in
+    ∙ ap (λ (page : List ℕ). map page_cells c.loop-number.pages.items ++ page ∷ []) {x = page_cells (Own c.in_ok-from_slice.field-0)}
+    {y = slice_range cells start end} (search rules) in
     let more : 16384 * c.loop-number.number < length cells = search rules in
     let last : end ≡ min (16384 * c.loop-number.number + 16384) (length cells) = search rules in
     subst (AreCut cells (c.loop-number.number + 1)) (sym pushed)

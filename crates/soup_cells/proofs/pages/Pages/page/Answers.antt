@@ -18,7 +18,8 @@ index-requires c =
 pub returns-clause-cells : goal.returns-clause-cells
 returns-clause-cells c =
     c.cells.ensures
-    ∙ (page-at page_cells c.self.inside.pages.items c.self.inside.size c.args.number c.self.invariant.paged (there ((goal.at.returns-clause-cells c).After-self))).1
+    ∙ (page-at page_cells c.self.inside.pages.items c.self.inside.size c.args.number c.self.invariant.paged
+    (there ((goal.at.returns-clause-cells c).After-self))).1
     c.index.result.now c.index.ensures
     ∙ ap (λ (s : SoupFields). slice_range s.cells (16384 * c.args.number) (min (16384 * c.args.number + 16384) (length s.cells))) c.self.view_is
 

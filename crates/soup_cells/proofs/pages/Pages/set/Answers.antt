@@ -51,14 +51,17 @@ returns-clause-cells c =
 
 pub set-requires-clause-own : goal.set-requires-clause-own
 unfolding is_ready
-set-requires-clause-own c = own c.self.inside.pages.items (c.args.at / 16384) c.index_mut.result.now (there ((goal.at.set-requires-clause-own c).After-self)).page c.index_mut.ensures.value
+set-requires-clause-own c =
+    own c.self.inside.pages.items (c.args.at / 16384) c.index_mut.result.now (there ((goal.at.set-requires-clause-own c).After-self)).page
+    c.index_mut.ensures.value
     (ap (λ (s : SoupFields). get_or s.own (c.args.at / 16384) false) c.self.view_is ∙ c.requires.ready)
 
 pub returns-clause-ready : goal.returns-clause-ready
 unfolding is_ready
 returns-clause-ready c p =
     let is : is_own c.index_mut.result.now ≡ true =
-    own c.self.inside.pages.items (c.args.at / 16384) c.index_mut.result.now (there ((goal.at.returns-clause-ready c).After-self)).page c.index_mut.ensures.value
+    own c.self.inside.pages.items (c.args.at / 16384) c.index_mut.result.now (there ((goal.at.returns-clause-ready c).After-self)).page
+    c.index_mut.ensures.value
     (ap (λ (s : SoupFields). get_or s.own (c.args.at / 16384) false) c.self.view_is ∙ c.requires.ready) in
     ap (λ (flags : List Bool). get_or flags (p / 16384) false)
     (map-set_same is_own c.self.inside.pages.items (c.args.at / 16384) c.set.new.self c.index_mut.result.now

@@ -5,4 +5,5 @@ use Rattle.soup_cells.proofs.Paged.{length-pages}
 use Rattle.soup_cells.proofs.pages.Pages.size.Goals as goal
 
 pub returns : goal.returns
-returns c = sym (length-pages c.self.inside.size (map page_cells c.self.inside.pages.items) c.self.invariant.paged) ∙ ap (λ (s : SoupFields). length s.cells) c.self.view_is
+returns c = sym (length-pages c.self.inside.size (map page_cells c.self.inside.pages.items) c.self.invariant.paged)
+    ∙ ap (λ (s : SoupFields). length s.cells) c.self.view_is

@@ -10,4 +10,5 @@ returns-then-seen-self c vs opening is =
     let other = c.if-seen-self.true in
     differs_in_word vs c.args.row.now c.args.place c.args.self opening (λ j. c.word_at.ensures.bytes (c.args.place + j))
     (λ e. (let same = ap (λ (n : ℕ). bit_and n c.args.self.mask) word ∙ e in grind (arith, nat_tests)))
-    (ap (λ (n : ℕ). bit_and (bit_and n c.args.self.mask) no_codes) (sym word) ∙ (let none : bit_and (bit_and c.word_at.result c.args.self.mask) no_codes ≡ 0 = grind (arith, nat_tests) in none))
+    (ap (λ (n : ℕ). bit_and (bit_and n c.args.self.mask) no_codes) (sym word)
+    ∙ (let none : bit_and (bit_and c.word_at.result c.args.self.mask) no_codes ≡ 0 = grind (arith, nat_tests) in none))

@@ -8,4 +8,6 @@ returns c =
     let cells = c.args.template.now.cells in
     let nops = c.args.template.now.nops in
     let len = c.args.template.now.len in
-    is_opening (take len cells) cells len refl (search rules) (search rules) (λ j. omega (arith, nops j)) _ c.args.template.now.word c.mask_of-mask.result (search rules) (c.mask_of-mask.ensures (take len cells) (search rules)) refl refl
+    is_opening (take len cells) cells len refl (search rules) (search rules)
+    (λ j. omega (arith, nops j)) _ c.args.template.now.word c.mask_of-mask.result (search rules)
+    (c.mask_of-mask.ensures (take len cells) (search rules)) refl refl

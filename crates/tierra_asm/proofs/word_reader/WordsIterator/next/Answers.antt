@@ -15,7 +15,8 @@ returns-clause-steps c =
     let some = false-eqb _ 0 c.if-is_empty.ensures in
     sym c.self.view_is
     ∙ sym c.next_word-line.ensures.same
-    ∙ first_word c.next_word-line.result.0 c.word_len.result c.next_word-line.result.1.now c.split_at.result.0.now c.split_at.result.1.now (omega arith) c.next_word-line.ensures.at_word end c.split_at.ensures.front c.split_at.ensures.back (omega (arith, some))
+    ∙ first_word c.next_word-line.result.0 c.word_len.result c.next_word-line.result.1.now c.split_at.result.0.now c.split_at.result.1.now (omega arith)
+    c.next_word-line.ensures.at_word end c.split_at.ensures.front c.split_at.ensures.back (omega (arith, some))
 
 pub returns-clause-goes : goal.returns-clause-goes
 returns-clause-goes c = record { on = λ _. (tt, tt, omega (arith, ap length (returns-clause-steps c))); keeps = tt; rests = λ _. tt }

@@ -9,8 +9,14 @@ use Rattle.turn_lock.proofs.lock.TurnLock.join_seats.Goals as goal
 pub join_seat-requires : goal.join_seat-requires
 join_seat-requires g c =
     let into = ap view_of c.into_seat-table_seat.ensures.2 in
-    let from = ap view_of c.into_seat.ensures.2 in
-    (search rules, search rules, search rules, search rules, joins _ _ _ _ _ _ (ap (λ v. v.stage) (sym into) ∙ c.into.invariant.idle) (ap (λ v. v.stage) (sym from) ∙ c.from.invariant.idle))
+    let from = ap view_of c.into_seat.ensures.2 in (
+      search rules,
+      search rules,
+      search rules,
+      search rules,
+      joins _ _ _ _ _ _ (ap (λ v. v.stage) (sym into) ∙ c.into.invariant.idle)
+          (ap (λ v. v.stage) (sym from) ∙ c.from.invariant.idle),
+    )
 
 pub load-requires : goal.load-requires
 load-requires g c =
@@ -35,4 +41,5 @@ returns-clause-own g c =
     let stage = ap (λ z. z.0.stage) c.join_seat.ensures.2 ∙ (ap (λ v. v.stage) (sym into) ∙ c.into.invariant.idle) in
     let same = c.load.ensures.2.same (λ waits. subst (λ z. WaitsFor z c.load.result) stage waits) in
     let now = c.into_badge.ensures.2 ∙ (ap (λ z. z.0 ∷ []) (same ∙ c.join_seat.ensures.2) ∙ (λ k. after_join (sym into k) (sym from k) ∷ [])) in
-    own_joined c.args.into c.args.from (seat_of c.into_badge.result.table_id (view_of c.into_badge.result.views)) (ap (λ l. (view_of l).own) now ∙ (λ k. merged (ap (λ s. s.own) c.into.view_is k) (ap (λ s. s.own) c.from.view_is k)))
+    own_joined c.args.into c.args.from (seat_of c.into_badge.result.table_id (view_of c.into_badge.result.views))
+    (ap (λ l. (view_of l).own) now ∙ (λ k. merged (ap (λ s. s.own) c.into.view_is k) (ap (λ s. s.own) c.from.view_is k)))

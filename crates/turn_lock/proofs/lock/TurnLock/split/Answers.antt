@@ -13,7 +13,8 @@ into_seat-table_seat-requires g c = (view_of c.seat.inside.badge.views, ap (λ b
 
 pub split_seat-new-requires : goal.split_seat-new-requires
 split_seat-new-requires g c =
-    let now : view_of c.seat.inside.badge.views ≡ c.into_seat-table_seat.result.me.0 = sym (ap (λ b. view_of b.views) c.replace-badge.ensures.value) ∙ ap view_of c.into_seat-table_seat.ensures.2 in
+    let now : view_of c.seat.inside.badge.views ≡ c.into_seat-table_seat.result.me.0 =
+    sym (ap (λ b. view_of b.views) c.replace-badge.ensures.value) ∙ ap view_of c.into_seat-table_seat.ensures.2 in
     let idle = ap (λ v. v.stage) (sym now) ∙ c.seat.invariant.idle in
     let first = value_of (own_of c.args.seat.now 1) c.requires.first in
     let next = value_where c.args.seat.now.last_caller (λ last. c.args.caller ≡ last + 1) c.requires.next in
@@ -27,29 +28,38 @@ split_seat-new-requires g c =
 
 pub invariant_of-result : goal.invariant_of-result
 invariant_of-result g c =
-    let now : view_of c.seat.inside.badge.views ≡ c.into_seat-table_seat.result.me.0 = sym (ap (λ b. view_of b.views) c.replace-badge.ensures.value) ∙ ap view_of c.into_seat-table_seat.ensures.2 in
+    let now : view_of c.seat.inside.badge.views ≡ c.into_seat-table_seat.result.me.0 =
+    sym (ap (λ b. view_of b.views) c.replace-badge.ensures.value) ∙ ap view_of c.into_seat-table_seat.ensures.2 in
     let next = value_where c.args.seat.now.last_caller (λ last. c.args.caller ≡ last + 1) c.requires.next in
     let last = ap (λ s. unwrap_or s.last_caller 0) c.seat.view_is ∙ ap (λ o. unwrap_or o 0) next.1 in
     let caller = next.2 in
-    rw (c.in_ok-own.ensures.ok, c.only_for.ensures) (mirrors_new c.seat.inside.badge.views _ _ _ _ c.seat.invariant _ _ (omega arith) c.requires.most (c.into_badge-2.ensures.2 ∙ (ap (λ z. z.0 ∷ []) c.split_seat-new.ensures.4 ∙ ap (λ v. new_view v ∷ []) (sym now))))
+    rw (c.in_ok-own.ensures.ok, c.only_for.ensures)
+    (mirrors_new c.seat.inside.badge.views _ _ _ _ c.seat.invariant _ _ (omega arith) c.requires.most
+    (c.into_badge-2.ensures.2 ∙ (ap (λ z. z.0 ∷ []) c.split_seat-new.ensures.4 ∙ ap (λ v. new_view v ∷ []) (sym now))))
 
 pub invariant_of-seat : goal.invariant_of-seat
 invariant_of-seat g c =
-    let now : view_of c.seat.inside.badge.views ≡ c.into_seat-table_seat.result.me.0 = sym (ap (λ b. view_of b.views) c.replace-badge.ensures.value) ∙ ap view_of c.into_seat-table_seat.ensures.2 in
-    mirrors_split c.seat.inside.badge.views _ _ _ _ c.seat.invariant _ (c.into_badge.ensures.2 ∙ (ap (λ z. z.0 ∷ []) c.split_seat-new.ensures.2 ∙ ap (λ v. after_split v ∷ []) (sym now)))
+    let now : view_of c.seat.inside.badge.views ≡ c.into_seat-table_seat.result.me.0 =
+    sym (ap (λ b. view_of b.views) c.replace-badge.ensures.value) ∙ ap view_of c.into_seat-table_seat.ensures.2 in
+    mirrors_split c.seat.inside.badge.views _ _ _ _ c.seat.invariant _
+    (c.into_badge.ensures.2 ∙ (ap (λ z. z.0 ∷ []) c.split_seat-new.ensures.2 ∙ ap (λ v. after_split v ∷ []) (sym now)))
 
 pub returns-clause-new : goal.returns-clause-new
 returns-clause-new g c =
-    let now : view_of c.seat.inside.badge.views ≡ c.into_seat-table_seat.result.me.0 = sym (ap (λ b. view_of b.views) c.replace-badge.ensures.value) ∙ ap view_of c.into_seat-table_seat.ensures.2 in
+    let now : view_of c.seat.inside.badge.views ≡ c.into_seat-table_seat.result.me.0 =
+    sym (ap (λ b. view_of b.views) c.replace-badge.ensures.value) ∙ ap view_of c.into_seat-table_seat.ensures.2 in
     let next = value_where c.args.seat.now.last_caller (λ last. c.args.caller ≡ last + 1) c.requires.next in
     let last = ap (λ s. unwrap_or s.last_caller 0) c.seat.view_is ∙ ap (λ o. unwrap_or o 0) next.1 in
     let caller = next.2 in
-    new_seat_is c.seat.inside.badge.table_id c.into_badge-2.result.table_id (view_of c.seat.inside.badge.views) _ c.into_badge-2.result.views _ c.seat.view_is (search rules) (c.into_badge-2.ensures.2 ∙ (ap (λ z. z.0 ∷ []) c.split_seat-new.ensures.4 ∙ ap (λ v. new_view v ∷ []) (sym now))) (omega arith)
+    new_seat_is c.seat.inside.badge.table_id c.into_badge-2.result.table_id (view_of c.seat.inside.badge.views) _ c.into_badge-2.result.views _ c.seat.view_is
+    (search rules) (c.into_badge-2.ensures.2 ∙ (ap (λ z. z.0 ∷ []) c.split_seat-new.ensures.4 ∙ ap (λ v. new_view v ∷ []) (sym now))) (omega arith)
 
 pub returns-clause-old : goal.returns-clause-old
 returns-clause-old g c =
-    let now : view_of c.seat.inside.badge.views ≡ c.into_seat-table_seat.result.me.0 = sym (ap (λ b. view_of b.views) c.replace-badge.ensures.value) ∙ ap view_of c.into_seat-table_seat.ensures.2 in
+    let now : view_of c.seat.inside.badge.views ≡ c.into_seat-table_seat.result.me.0 =
+    sym (ap (λ b. view_of b.views) c.replace-badge.ensures.value) ∙ ap view_of c.into_seat-table_seat.ensures.2 in
     let next = value_where c.args.seat.now.last_caller (λ last. c.args.caller ≡ last + 1) c.requires.next in
     let last = ap (λ s. unwrap_or s.last_caller 0) c.seat.view_is ∙ ap (λ o. unwrap_or o 0) next.1 in
     let caller = next.2 in
-    old_seat_is c.seat.inside.badge.table_id c.into_badge.result.table_id (view_of c.seat.inside.badge.views) _ c.into_badge.result.views _ c.seat.view_is (search rules) (c.into_badge.ensures.2 ∙ (ap (λ z. z.0 ∷ []) c.split_seat-new.ensures.2 ∙ ap (λ v. after_split v ∷ []) (sym now))) (omega arith)
+    old_seat_is c.seat.inside.badge.table_id c.into_badge.result.table_id (view_of c.seat.inside.badge.views) _ c.into_badge.result.views _ c.seat.view_is
+    (search rules) (c.into_badge.ensures.2 ∙ (ap (λ z. z.0 ∷ []) c.split_seat-new.ensures.2 ∙ ap (λ v. after_split v ∷ []) (sym now))) (omega arith)

@@ -14,4 +14,5 @@ pub returns : goal.returns
 returns c =
     subst (λ (l : LivingFields). Some c.index.result.now ≡ find (λ x. x.id == c.args.id) l.creatures) c.self.view_is
     (ap Some c.index.ensures
-    ∙ sym (found-at 1 c.args.id c.self.inside.creatures.items c.in_ok-place.place c.index.result.now c.self.invariant c.in_ok-place.ensures.some.1 (c.in_ok-place.ensures.some.0 c.index.result.now)))
+    ∙ sym (found-at 1 c.args.id c.self.inside.creatures.items c.in_ok-place.place c.index.result.now c.self.invariant c.in_ok-place.ensures.some.1
+    (c.in_ok-place.ensures.some.0 c.index.result.now)))

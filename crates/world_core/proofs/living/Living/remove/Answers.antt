@@ -21,7 +21,8 @@ left c =
 pub invariant_of-self : goal.invariant_of-self
 invariant_of-self c =
     rw (left ((goal.at.invariant_of-self c).After-remove))
-    (subst (Ordered 1) (sym (ids_of-without c.args.id c.self.inside.creatures.items)) (ordered-filter 1 c.args.id (ids_of c.self.inside.creatures.items) c.self.invariant))
+    (subst (Ordered 1) (sym (ids_of-without c.args.id c.self.inside.creatures.items))
+    (ordered-filter 1 c.args.id (ids_of c.self.inside.creatures.items) c.self.invariant))
 
 pub returns-clause-creatures : goal.returns-clause-creatures
 returns-clause-creatures c =

@@ -17,11 +17,15 @@ one_more c = subst (λ (p : PopulationFields). c.args.creature.errors ≡ (one_o
 -- the queue has moved, with the errors of the record that is put in
 moved : (c : After-error)
     → Moved (with_record c.args.creature c.self.inside.living.creatures)
-    (error_move (λ id. id == c.args.creature.id) (λ id. (one_of (with_record c.args.creature c.self.inside.living.creatures) id).errors) (entry_ids c.self.inside.reaper.entries))
+    (error_move (λ id. id == c.args.creature.id) (λ id. (one_of (with_record c.args.creature c.self.inside.living.creatures) id).errors)
+    (entry_ids c.self.inside.reaper.entries))
     c.error.new.self.entries
 moved c =
-    subst (Moved _ _) (sym (c.error.ensures.entries ∙ ap (λ (l : List (ℕ × ℕ)). error_move (is_of c.args.creature.id) errors_of (with_error c.args.creature.id l)) c.self.invariant))
-    (entries-error c.args.creature c.self.inside.living.creatures (entry_ids c.self.inside.reaper.entries) (here (goal.at.After-error c).After-self) (one_more (goal.at.After-error c).After-self))
+    subst (Moved _ _)
+    (sym (c.error.ensures.entries ∙ ap (λ (l : List (ℕ × ℕ)). error_move (is_of c.args.creature.id) errors_of (with_error c.args.creature.id l))
+    c.self.invariant))
+    (entries-error c.args.creature c.self.inside.living.creatures (entry_ids c.self.inside.reaper.entries) (here (goal.at.After-error c).After-self)
+    (one_more (goal.at.After-error c).After-self))
 
 pub error-requires-clause-small : goal.error-requires-clause-small
 error-requires-clause-small c =
@@ -43,4 +47,5 @@ invariant_of-self c =
 pub returns-clause-reaper : goal.returns-clause-reaper
 returns-clause-reaper c =
     (moved ((goal.at.returns-clause-reaper c).After-error)).holds
-    ∙ ap (λ (p : PopulationFields). error_move (λ id. id == c.args.creature.id) (λ id. (one_of (with_record c.args.creature p.living) id).errors) p.reaper) c.self.view_is
+    ∙ ap (λ (p : PopulationFields). error_move (λ id. id == c.args.creature.id) (λ id. (one_of (with_record c.args.creature p.living) id).errors) p.reaper)
+    c.self.view_is

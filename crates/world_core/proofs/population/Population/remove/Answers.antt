@@ -8,7 +8,8 @@ use Rattle.world_core.proofs.population.Population.remove.Goals as goal
 use Rattle.world_core.proofs.population.Population.remove.Goals.{After-remove-3}
 
 moved : (c : After-remove-3)
-    → Moved (without c.args.id c.self.inside.living.creatures) (filter (λ x. not (x == c.args.id)) (entry_ids c.self.inside.reaper.entries)) c.remove-3.new.self.entries
+    → Moved (without c.args.id c.self.inside.living.creatures)
+    (filter (λ x. not (x == c.args.id)) (entry_ids c.self.inside.reaper.entries)) c.remove-3.new.self.entries
 moved c =
     subst (Moved _ _) (sym (c.remove-3.ensures.entries ∙ ap (filter (λ (x : ℕ × ℕ). not (x.0 == c.args.id))) c.self.invariant))
     (entries-removed c.args.id c.self.inside.living.creatures (entry_ids c.self.inside.reaper.entries))

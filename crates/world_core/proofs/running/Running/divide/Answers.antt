@@ -100,7 +100,8 @@ invariant_of-self c =
     = λ g. c.born.ensures.living g ∙ ap (λ (y : Creature). living_of c.self.inside.census g + one_if (y.genotype == g)) (sym c.newborn.ensures) in
     rw (c.put.ensures.living, c.enter.ensures.living, c.bear.ensures)
     (tied-born c.self.inside.settings.soup_size living c.self.inside.blocks c.self.inside.census c.born.new.self x a nb c.unwrap-block.result
-    (puts-entered living nb x a new puts) c.unwrap-block.ensures refl (ap (λ (y : Creature). y.own) c.newborn.ensures) (ap (λ (y : Creature). y.daughter) c.newborn.ensures) more c.self.invariant)
+    (puts-entered living nb x a new puts) c.unwrap-block.ensures refl (ap (λ (y : Creature). y.own) c.newborn.ensures)
+    (ap (λ (y : Creature). y.daughter) c.newborn.ensures) more c.self.invariant)
 
 pub returns-clause-world : goal.returns-clause-world
 returns-clause-world c =
@@ -117,9 +118,12 @@ returns-clause-world c =
       next_birth = w.next_birth + 1;
       births = w.births + 1;
     })
-    ∙ born w c.args.ran c.args.moved b x nb c.note_effort.new.self.genotypes c.note_birth-genotype.new.self.genotypes c.note_birth-genotype.result c.from-save_at.result
+    ∙ born w c.args.ran c.args.moved b x nb c.note_effort.new.self.genotypes c.note_birth-genotype.new.self.genotypes c.note_birth-genotype.result
+    c.from-save_at.result
     c.args.code c.note_birth-genotype.new.self.saved c.front.ensures c.unwrap-block.ensures
     (code_is c.self.inside c.args.self.now x b c.args.code c.self.view_is c.front.ensures c.unwrap-block.ensures c.requires.code)
     c.note_effort.ensures.genotypes c.note_birth-genotype.ensures.genotypes c.note_birth-genotype.ensures.number c.from-save_at.ensures
-    (c.note_birth-genotype.ensures.saved ∙ ap (savings_after c.from-save_at.result (with_individual c.note_effort.new.self.genotypes c.args.code (Some x.genotype) (c.self.inside.quanta + 1)).0 c.note_birth-genotype.result (c.self.inside.quanta + 1)) c.note_effort.ensures.saved) c.newborn.ensures
+    (c.note_birth-genotype.ensures.saved
+    ∙ ap (savings_after c.from-save_at.result (with_individual c.note_effort.new.self.genotypes c.args.code (Some x.genotype) (c.self.inside.quanta + 1)).0
+    c.note_birth-genotype.result (c.self.inside.quanta + 1)) c.note_effort.ensures.saved) c.newborn.ensures
     ∙ ap (λ (h : WorldFields). apply_event h.world (event.Divide c.args.ran c.args.moved)) c.self.view_is

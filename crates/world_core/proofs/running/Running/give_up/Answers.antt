@@ -17,7 +17,8 @@ pub give_back-requires-clause-within : goal.give_back-requires-clause-within
 give_back-requires-clause-within c p h =
     let r : IsRunning (the_view c.self.inside).world = subst (λ (h : WorldFields). IsRunning h.world) (sym c.self.view_is) c.requires.within in
     let placed = placed_front _ c.front.result.now r c.front.ensures in
-    rw c.self.invariant.size (in_block c.self.inside.settings.soup_size c.unwrap-block.result p (daughter_block _ c.front.result.now c.unwrap-block.result placed c.unwrap-block.ensures) h)
+    rw c.self.invariant.size (in_block c.self.inside.settings.soup_size c.unwrap-block.result p
+    (daughter_block _ c.front.result.now c.unwrap-block.result placed c.unwrap-block.ensures) h)
 
 pub give_back-requires-clause-owned : goal.give_back-requires-clause-owned
 give_back-requires-clause-owned c p h =
@@ -28,7 +29,8 @@ give_back-requires-clause-owned c p h =
     let placed = placed_front _ x r c.front.ensures in
     let below : p < n = in_block n c.unwrap-block.result p (daughter_block n x c.unwrap-block.result placed c.unwrap-block.ensures) h in
     let held : holds x p ≡ true = held_daughter x c.unwrap-block.result p c.unwrap-block.ensures h in
-    ap (λ (f : List Block). is_in_some f p) c.self.invariant.free ∙ owned_is_not_free n living p below (owns_held living x p (here_front _ x r c.front.ensures) r.once (one_front _ x r c.front.ensures) held)
+    ap (λ (f : List Block). is_in_some f p) c.self.invariant.free
+    ∙ owned_is_not_free n living p below (owns_held living x p (here_front _ x r c.front.ensures) r.once (one_front _ x r c.front.ensures) held)
 
 pub put-requires-clause-here : goal.put-requires-clause-here
 put-requires-clause-here c =
@@ -47,8 +49,15 @@ invariant_of-self c =
     let e = c.front.ensures in
     let a : Creature = record_after event.GiveUp x in
     rw (c.put.ensures.living, c.give_up.ensures)
-    (tied-given_up c.self.inside.settings.soup_size c.self.inside.population.living c.self.inside.blocks c.give_back.new.self c.self.inside.census x a c.unwrap-block.result
-    (record { here = here_front _ x r e; once = r.once; found = one_front _ x r e; own = refl; genotype = refl }) c.unwrap-block.ensures refl r.apart c.give_back.ensures.size c.give_back.ensures.free c.self.invariant)
+    (tied-given_up c.self.inside.settings.soup_size c.self.inside.population.living c.self.inside.blocks c.give_back.new.self c.self.inside.census x a
+    c.unwrap-block.result
+    (record {
+      here = here_front _ x r e;
+      once = r.once;
+      found = one_front _ x r e;
+      own = refl;
+      genotype = refl;
+    }) c.unwrap-block.ensures refl r.apart c.give_back.ensures.size c.give_back.ensures.free c.self.invariant)
 
 pub returns-clause-world : goal.returns-clause-world
 returns-clause-world c =

@@ -43,4 +43,5 @@ invariant_of-self-2 c =
     rw c.enter.ensures.living
     (tied-entered c.self.inside.settings.soup_size c.self.inside.population.living c.self.inside.blocks c.take.new.self c.self.inside.census c.born.new.self nb
     (ap (λ (y : Creature). y.daughter) c.newborn.ensures) c.take.ensures.size
-    (c.take.ensures.free ∙ (λ i. runs_of c.self.inside.blocks.size (λ p. is_in_some c.self.inside.blocks.free p && not (is_in (sym own i) p)))) more c.self.invariant)
+    (c.take.ensures.free ∙ (λ i. runs_of c.self.inside.blocks.size (λ p. is_in_some c.self.inside.blocks.free p && not (is_in (sym own i) p)))) more
+    c.self.invariant)

@@ -51,7 +51,13 @@ invariant_of-self c =
     = ap (λ (y : Creature). y.daughter) e ∙ can.0 in
     rw (c.put.ensures.living, c.take.ensures)
     (tied-taken c.self.inside.settings.soup_size c.self.inside.population.living c.self.inside.blocks c.take-2.new.self c.self.inside.census x a c.args.block
-    (record { here = here_front _ x r e; once = r.once; found = one_front _ x r e; own = refl; genotype = refl }) none refl c.take-2.ensures.size c.take-2.ensures.free c.self.invariant)
+    (record {
+      here = here_front _ x r e;
+      once = r.once;
+      found = one_front _ x r e;
+      own = refl;
+      genotype = refl;
+    }) none refl c.take-2.ensures.size c.take-2.ensures.free c.self.invariant)
 
 pub returns-clause-world : goal.returns-clause-world
 returns-clause-world c =

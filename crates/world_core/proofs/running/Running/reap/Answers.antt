@@ -45,15 +45,18 @@ dies w place x r h e =
 dying : (i : Inside) (h : WorldFields) (place : ℕ) (x : Creature) → the_view i ≡ h → IsRunning h.world → CanHappen h.world (event.Reap place)
     → x ≡ one_of i.population.living (slice_index i.population.reaper place) → Dies (the_view i).world place x
 dying i h place x v r can e =
-    dies (the_view i).world place x (subst (λ (k : WorldFields). IsRunning k.world) (sym v) r) (subst (λ (k : WorldFields). place < length k.world.reaper) (sym v) can.0) e
+    dies (the_view i).world place x (subst (λ (k : WorldFields). IsRunning k.world) (sym v) r)
+    (subst (λ (k : WorldFields). place < length k.world.reaper) (sym v) can.0) e
 
 pub at-requires-clause-here : goal.at-requires-clause-here
 at-requires-clause-here c =
     let r : IsRunning (the_view c.self.inside).world = subst (λ (h : WorldFields). IsRunning h.world) (sym c.self.view_is) c.requires.within in
-    reaped_here (the_view c.self.inside).world c.args.place r.reaper (subst (λ (k : WorldFields). c.args.place < length k.world.reaper) (sym c.self.view_is) c.requires.can.0)
+    reaped_here (the_view c.self.inside).world c.args.place r.reaper
+    (subst (λ (k : WorldFields). c.args.place < length k.world.reaper) (sym c.self.view_is) c.requires.can.0)
 
 pub give_back_all-requires-clause-runs : goal.give_back_all-requires-clause-runs
-give_back_all-requires-clause-runs c = runs-again _ _ _ (c.self.invariant.free ∙ (λ i. runs_of (sym c.self.invariant.size i) (λ p. not (is_owned c.self.inside.population.living p))))
+give_back_all-requires-clause-runs c =
+    runs-again _ _ _ (c.self.invariant.free ∙ (λ i. runs_of (sym c.self.invariant.size i) (λ p. not (is_owned c.self.inside.population.living p))))
 
 pub give_back_all-requires-clause-within : goal.give_back_all-requires-clause-within
 give_back_all-requires-clause-within c p h =
@@ -105,12 +108,14 @@ invariant_of-self c =
     let x = c.at.result.now in
     let d = dying c.self.inside c.args.self.now c.args.place x c.self.view_is c.requires.within c.requires.can c.at.ensures in
     rw c.remove.ensures.living
-    (tied-died c.self.inside.settings.soup_size c.self.inside.population.living c.self.inside.blocks c.give_back_all.new.blocks c.self.inside.census c.died.new.self x.id x
+    (tied-died c.self.inside.settings.soup_size c.self.inside.population.living c.self.inside.blocks c.give_back_all.new.blocks c.self.inside.census
+    c.died.new.self x.id x
     d.here r.once d.found r.apart c.give_back_all.ensures.size c.give_back_all.ensures.free c.died.ensures.living c.self.invariant)
 
 pub returns-clause-world : goal.returns-clause-world
 returns-clause-world c =
     let d = dying c.self.inside c.args.self.now c.args.place c.at.result.now c.self.view_is c.requires.within c.requires.can c.at.ensures in
-    (λ i. record (with_lists (the_view c.self.inside).world (c.remove.ensures.living i) (c.remove.ensures.slicer i) (c.remove.ensures.reaper i)) { deaths = c.self.inside.deaths + 1 })
+    (λ i. record (with_lists (the_view c.self.inside).world (c.remove.ensures.living i) (c.remove.ensures.slicer i) (c.remove.ensures.reaper i))
+    { deaths = c.self.inside.deaths + 1 })
     ∙ sym (after-reap (the_view c.self.inside).world c.args.place c.at.result.now.id d.number)
     ∙ ap (λ (h : WorldFields). apply_event h.world (event.Reap c.args.place)) c.self.view_is

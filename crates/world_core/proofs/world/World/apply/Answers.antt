@@ -20,7 +20,9 @@ done c =
 runs : (c : After-do_all) → IsRunning c.do_all.new.running.world
 runs c =
     let w : World = c.args.self.now.world in
-    subst IsRunning (sym (done c)) (running-after w c.args.prepared.events (subst (λ (h : WorldFields). IsSound h.world) c.self.view_is c.self.invariant) c.requires.fit.each c.requires.room.few)
+    subst IsRunning (sym (done c))
+    (running-after w c.args.prepared.events (subst (λ (h : WorldFields). IsSound h.world) c.self.view_is c.self.invariant) c.requires.fit.each
+    c.requires.room.few)
 
 -- and the quantum is ended
 replayed : (c : After-turn_end) → c.turn_end.new.self.world ≡ replay c.args.prepared.events c.args.prepared.after c.args.self.now.world
@@ -33,10 +35,12 @@ pub put-requires-clause-within : goal.put-requires-clause-within
 put-requires-clause-within c = runs ((goal.at.put-requires-clause-within c).After-do_all)
 
 pub turn_end-requires-clause-line : goal.turn_end-requires-clause-line
-turn_end-requires-clause-line c = subst (λ (w : World). 0 < length w.slicer) (sym c.put.ensures.world) (runs ((goal.at.turn_end-requires-clause-line c).After-do_all)).line
+turn_end-requires-clause-line c = subst (λ (w : World). 0 < length w.slicer) (sym c.put.ensures.world)
+    (runs ((goal.at.turn_end-requires-clause-line c).After-do_all)).line
 
 pub turn_end-requires-clause-count : goal.turn_end-requires-clause-count
-turn_end-requires-clause-count c = subst (λ (w : World). w.quanta < 1152921504606846976) (sym c.put.ensures.world) (runs ((goal.at.turn_end-requires-clause-count c).After-do_all)).quanta
+turn_end-requires-clause-count c = subst (λ (w : World). w.quanta < 1152921504606846976) (sym c.put.ensures.world)
+    (runs ((goal.at.turn_end-requires-clause-count c).After-do_all)).quanta
 
 pub invariant_of-self : goal.invariant_of-self
 invariant_of-self c = subst IsSound (sym (replayed ((goal.at.invariant_of-self c).After-turn_end))) c.requires.fit.sound

@@ -5,4 +5,5 @@ use Rattle.world_core.proofs.world.World.living.Goals as goal
 
 pub returns : goal.returns
 returns c =
-    c.reaper_len.ensures ∙ ap (λ (h : WorldFields). length h.world.reaper) c.deref.ensures ∙ length-reaper c.self.inside.running.value.world c.self.invariant ∙ ap (λ (h : WorldFields). length h.world.living) c.self.view_is
+    c.reaper_len.ensures ∙ ap (λ (h : WorldFields). length h.world.reaper) c.deref.ensures ∙ length-reaper c.self.inside.running.value.world c.self.invariant
+    ∙ ap (λ (h : WorldFields). length h.world.living) c.self.view_is

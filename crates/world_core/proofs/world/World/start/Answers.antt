@@ -20,7 +20,8 @@ started c =
 pub invariant_of-result : goal.invariant_of-result
 invariant_of-result c =
     subst IsSound (sym (started ((goal.at.invariant_of-result c).In_ok-inoculate_all)))
-    (subst (λ (s : SetupFields). IsSound (start s)) c.setup.view_is (start-sound (record { settings = c.setup.inside.settings; creatures = c.setup.inside.creatures }) c.setup.invariant))
+    (subst (λ (s : SetupFields). IsSound (start s)) c.setup.view_is
+    (start-sound (record { settings = c.setup.inside.settings; creatures = c.setup.inside.creatures }) c.setup.invariant))
 
 pub returns : goal.returns
 returns c = started ((goal.at.returns c).In_ok-inoculate_all)

@@ -36,7 +36,8 @@ returns-then-not-queue c = (
       let is : IsMatched (the_view c.self.inside) = subst IsMatched (sym c.self.view_is) h in
       let no : c.in_ok-queue.queue ≡ false = search rules in
       sym no ∙ c.in_ok-queue.ensures.1
-      (λ id. ap (λ (l : List ℕ). times_in l id) c.deref.ensures.value ∙ is.reaper id ∙ ap (λ (l : List Creature). times_in (ids_of l) id) (sym c.deref-2.ensures.value)),
+      (λ id. ap (λ (l : List ℕ). times_in l id) c.deref.ensures.value ∙ is.reaper id
+      ∙ ap (λ (l : List Creature). times_in (ids_of l) id) (sym c.deref-2.ensures.value)),
 )
 
 pub returns-then-not-apart : goal.returns-then-not-apart
