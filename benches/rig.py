@@ -187,3 +187,5 @@ one_file = creature(0, names).encode()
 held_file = b"soup_size = 400\n" + one_file
 two_file = f'soup_size = 100\n{creature(0, ["inc_b", "mov_iab"])}{creature(90, ["nop_1"] * 5)}'.encode()
 three_file = "".join(creature(at, names[:79] + [last]) for at, last in [(0, "if_cz"), (1000, "inc_a"), (2000, "dec_c")]).encode()
+# The same, with many mutations; each genotype is saved.
+mutant_file = b"copy_rate = 50\nback_rate = 100\nflaw_rate = 100\nsave_at = 1\n" + three_file

@@ -1,5 +1,0 @@
--- The counter is over the ledger of its blank.
-use Rattle.crew.proofs.alone.work_on.Given as goal
-
-abbrev pub ghosts-counted_work : goal.ghosts-counted_work
-ghosts-counted_work g a = record { name = a.blank.name; parts = a.blank.parts }
