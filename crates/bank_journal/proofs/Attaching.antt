@@ -3,12 +3,12 @@ use Rattle.std.proofs.Common.{◌≡◌, ◌∙◌, ◌⊎◌, inl, inr, refl, s
 use Rattle.std.specs.Prelude.{IsSomeAnd}
 use Rattle.desk_io.specs.Desk.{DeskState}
 use Rattle.tierra_model.specs.Groups.{GroupFields}
-use Rattle.bank_recover.specs.Bank.{title, opened, IsFresh}
+use Rattle.bank_recover.specs.Bank.{title, opened}
 use Rattle.bank_recover.proofs.Groups.{opened-none}
 use Rattle.bank_format.specs.Spelling.{IsSpellable}
 use Rattle.std.proofs.lemmas.List.Elements.{All-nil}
 use Rattle.file_journal.specs.Creating.{IsMade}
-use Rattle.file_journal.specs.Files as files
+use Rattle.file_journal.specs.Files.{ClosesAfter, IsFresh}
 use Rattle.file_journal.specs.Opening.{IsLeftOrMaking, IsNew}
 use Rattle.file_journal.specs.declared.header.Header.{Header}
 use Rattle.file_journal.proofs.Times.{becomes_now}
@@ -19,34 +19,28 @@ use Rattle.bank_journal.proofs.AtRest.{header_of, rest_says}
 use Rattle.bank_journal.proofs.Saying.{as_left, as_read, same_when_fresh}
 use Rattle.bank_journal.proofs.Times.{each_file, has_told}
 
--- a file that is fresh for a bank's title
-pub bank_fresh : (file : List ℕ) → files.IsFresh title file → IsFresh file
-bank_fresh file (inl short) = inl short
-bank_fresh file (inr (inl zero)) = inr (inl zero)
-bank_fresh file (inr (inr begun)) = inr (inr (record { first = begun.first; others = begun.others }))
-
 module _ (digest : List ℕ) (len : length digest ≡ 32) where
   pub made_rests : (image : List ℕ) → IsMade (header_for digest) image → IsAtRest digest [] image
   made_rests image made =
       let none : opened [] ≡ [] = sym (append-nil (opened [])) ∙ opened-none [] in
       let same : front digest len [] ≡ header_of digest =
       ap (λ (l : List ℕ). header_of digest ++ l) none ∙ append-nil (header_of digest) in
-      rest_of digest len [] image (All-nil IsSpellable) (subst (λ (x : List ℕ). files.ClosesAfter x image) (sym same) made)
+      rest_of digest len [] image (All-nil IsSpellable) (subst (λ (x : List ℕ). ClosesAfter x image) (sym same) made)
 
   pub opening_says : (h : Header) (may_leave : List ℕ → Type 0) (file image : List ℕ) → h ≡ header_for digest
       → IsLeftOrMaking h may_leave file image → SaysAsBefore digest may_leave file image
   opening_says h may_leave file image is left =
       says (subst (λ (k : Header). IsLeftOrMaking k may_leave file image) is left)
     where
-      has : files.IsFresh title image ⊎ IsMade (header_for digest) image → Has digest [] image
-      has (inl fresh) = inl (bank_fresh image fresh, refl)
+      has : IsFresh title image ⊎ IsMade (header_for digest) image → Has digest [] image
+      has (inl fresh) = inl (fresh, refl)
       has (inr made) = rest_says digest [] image (made_rests image made)
 
       says : IsLeftOrMaking (header_for digest) may_leave file image → SaysAsBefore digest may_leave file image
       says (inl was) = as_left digest may_leave file image was
       says (inr making) =
           as_read digest may_leave file image
-          (same_when_fresh digest file image (bank_fresh file making.0) (has making.1))
+          (same_when_fresh digest file image making.0 (has making.1))
 
   at_rest_of : (bank : BankState) (file : List ℕ) → bank.digest ≡ digest → bank.groups ≡ [] → IsAtRest digest [] file
       → IsAtRest bank.digest bank.groups file
@@ -58,8 +52,8 @@ module _ (digest : List ℕ) (len : length digest ≡ 32) where
       → IsNew (header_for digest) old new → Attaches digest old new bank
   attach_new old new bank d g n = record {
     digest_is = d;
-    groups = each_file old.reads (files.IsFresh title) (Has digest bank.groups)
-        (λ file is fresh. inl (bank_fresh file fresh, g)) n.fresh;
+    groups = each_file old.reads (IsFresh title) (Has digest bank.groups)
+        (λ file is fresh. inl (fresh, g)) n.fresh;
     attached = record {
       settled = n.made.settled;
       at_rest = becomes_now old new (λ file. IsMade (header_for digest)) (IsAtRest bank.digest bank.groups)

@@ -8,8 +8,8 @@ use Rattle.tierra_model.specs.declared.history.Stale.TheVariants as stale
 use Rattle.tierra_model.specs.declared.history.How.{How}
 use Rattle.tierra_model.proofs.Each.{Each, each-append}
 use Rattle.commit_book.specs.declared.history.Line.{Line}
-use Rattle.commit_book.specs.declared.history.Way.{Way}
-use Rattle.commit_book.specs.declared.history.Way.TheVariants as way
+use Rattle.commit_book.specs.declared.history.HowAt.{HowAt}
+use Rattle.commit_book.specs.declared.history.HowAt.TheVariants as way
 use Rattle.commit_book.specs.History.{IsThere, KeepsLines, entries_of, how_by}
 
 abbrev pub entry_of : List Stale → ℕ → Line → Entry
@@ -32,7 +32,7 @@ index-push [] d k h = absurd (omega arith)
 index-push (x ∷ xs) d zero h = refl
 index-push (x ∷ xs) d (suc k) h = index-push xs d k (omega arith)
 
-how-push : (ds : List Stale) (d : Stale) (w : Way) → IsThere (length ds) w → how_by (ds ++ d ∷ []) w ≡ how_by ds w
+how-push : (ds : List Stale) (d : Stale) (w : HowAt) → IsThere (length ds) w → how_by (ds ++ d ∷ []) w ≡ how_by ds w
 how-push ds d way.Fresh h = refl
 how-push ds d way.Missing h = refl
 how-push ds d (way.Stale k) h = ap (λ (s : Stale). how_by (s ∷ []) (way.Stale 0)) (index-push ds d k h)
@@ -44,7 +44,7 @@ entries-more ds d n [] h = refl
 entries-more ds d n (l ∷ ls) h =
     (λ i. record { quantum = n + 1; creature = l.creature; by = l.by; how = how-push ds d l.way h.0 i } ∷ entries-more ds d (n + 1) ls h.1 i)
 
-there-more : (m n : ℕ) (w : Way) → m < n → IsThere m w → IsThere n w
+there-more : (m n : ℕ) (w : HowAt) → m < n → IsThere m w → IsThere n w
 there-more m n way.Fresh h k = tt
 there-more m n way.Missing h k = tt
 there-more m n (way.Stale p) h k = omega (arith, k)

@@ -7,16 +7,16 @@ use Rattle.tierra_model.specs.declared.history.How.TheVariants as how
 use Rattle.tierra_model.specs.declared.history.Stale.{Stale}
 use Rattle.tierra_model.specs.declared.history.Stale.TheVariants as stale
 use Rattle.commit_book.specs.declared.history.Line.{Line}
-use Rattle.commit_book.specs.declared.history.Way.{Way}
-use Rattle.commit_book.specs.declared.history.Way.TheVariants as way
+use Rattle.commit_book.specs.declared.history.HowAt.{HowAt}
+use Rattle.commit_book.specs.declared.history.HowAt.TheVariants as way
 
-abbrev pub how_by : List Stale → Way → How
+abbrev pub how_by : List Stale → HowAt → How
 how_by differences way.Fresh = how.Fresh
 how_by differences way.Missing = how.Missing
 how_by differences (way.Stale place) = how.Stale (slice_index_or differences place stale.Body)
 
 -- the number of a difference is in range
-abbrev pub IsThere : ℕ → Way → Type 0
+abbrev pub IsThere : ℕ → HowAt → Type 0
 IsThere n way.Fresh = Unit {0}
 IsThere n way.Missing = Unit {0}
 IsThere n (way.Stale place) = place < n

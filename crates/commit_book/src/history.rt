@@ -20,12 +20,12 @@ pub struct History {
 pub(crate) struct Line {
     creature: u64,
     by: u32,
-    way: Way,
+    way: HowAt,
 }
 
 /// Like `How`, with the place of the difference instead of the difference.
 #[derive(Clone, Copy, Debug, Drop)]
-pub(crate) enum Way {
+pub(crate) enum HowAt {
     Fresh,
     Missing,
     Stale(usize),
@@ -89,31 +89,31 @@ impl History {
     }
 }
 
-// Turns `How` into the `Way` of a line. A difference is appended to the list.
-fn way_of(how: How, differences: &mut Vec<Stale>) -> Result<Way, OutOfMemory>
+// Turns `How` into the `HowAt` of a line. A difference is appended to the list.
+fn way_of(how: How, differences: &mut Vec<Stale>) -> Result<HowAt, OutOfMemory>
     ensures how { IfOk result (λ w. how_by differences.new.items w ≡ how) }
     ensures there { IfOk result (IsThere (length differences.new.items)) }
     ensures lines { KeepsLines differences.old.items differences.new.items }
     ensures refused { OnErr result (differences.new.items ≡ differences.old.items) }
 {
     match how {
-        How::Fresh => Ok(Way::Fresh),
-        How::Missing => Ok(Way::Missing),
+        How::Fresh => Ok(HowAt::Fresh),
+        How::Missing => Ok(HowAt::Missing),
         How::Stale(difference) => {
             let place = differences.len();
             differences.push(difference)?;
-            Ok(Way::Stale(place))
+            Ok(HowAt::Stale(place))
         }
     }
 }
 
-fn how_by(way: Way, differences: &Vec<Stale>) -> How
+fn how_by(way: HowAt, differences: &Vec<Stale>) -> How
     requires { IsThere (length differences.now.items) way }
     ensures { result ≡ how_by differences.now.items way }
 {
     match way {
-        Way::Fresh => How::Fresh,
-        Way::Missing => How::Missing,
-        Way::Stale(place) => How::Stale(differences[place]),
+        HowAt::Fresh => How::Fresh,
+        HowAt::Missing => How::Missing,
+        HowAt::Stale(place) => How::Stale(differences[place]),
     }
 }

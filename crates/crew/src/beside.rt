@@ -15,7 +15,7 @@ use crate::handing::new_groups;
 use crate::shelf::{BLOCK_QUANTA, Duties, Task};
 use crate::trial::Plan;
 use commit_book::Book;
-use mutation_streams::{Block, Draws, Tape};
+use mutation_streams::{TapeBlock, Draws, Tape};
 use std::alloc::Global;
 use std::marker::{Brand, PhantomData};
 use std::sync::Wait;
@@ -56,7 +56,7 @@ pub(crate) struct Parcel<C: Course> {
 // The draws of the next quanta, as far as they were made ahead.
 #[derive(Drop)]
 struct Page {
-    block: Option<Block>,
+    block: Option<TapeBlock>,
     // Whether others make draws.
     is_drawn: bool,
 }
@@ -211,7 +211,7 @@ fn draw<R: Wait, C: Course>(
     if count == 0 {
         return;
     }
-    if let Ok(block) = Block::write(alloc, &plan.settings, first, count, plan.reach) {
+    if let Ok(block) = TapeBlock::write(alloc, &plan.settings, first, count, plan.reach) {
         exchange.add(rt, block);
     }
 }

@@ -1,7 +1,7 @@
 //! How the workers of a run meet while one of them runs its quanta.
 
 use crate::shelf::{Duties, Shelf, Task};
-use mutation_streams::Block;
+use mutation_streams::TapeBlock;
 use std::alloc::Global;
 use std::sync::{Condvar, Mutex, Wait};
 use std::thread;
@@ -44,7 +44,7 @@ impl<P: Drop> Exchange<P> {
     }
 
     /// The run has come to this quantum. Answers whether it is to go on, and with which block of draws, if it is there.
-    pub(crate) fn go_on<R: Wait>(&self, rt: &R, at: u64) -> (bool, Option<Block>) {
+    pub(crate) fn go_on<R: Wait>(&self, rt: &R, at: u64) -> (bool, Option<TapeBlock>) {
         let mut shelf = self.shelf.lock(rt);
         let block = shelf.block_at(at);
         let goes_on = !shelf.is_halted();
@@ -105,7 +105,7 @@ impl<P: Drop> Exchange<P> {
     }
 
     /// Lays down a block of draws.
-    pub(crate) fn add<R: Wait>(&self, rt: &R, block: Block) {
+    pub(crate) fn add<R: Wait>(&self, rt: &R, block: TapeBlock) {
         self.shelf.lock(rt).add(block);
     }
 

@@ -5,7 +5,7 @@ ghost use Rattle.crew.specs.Shelf.{OnDraw, OnHand};
 ghost use Rattle.crew.specs.declared.shelf.Stage.TheVariants as stage;
 ghost use Rattle.crew.specs.declared.shelf.TheConstants.{MOST_PARCELS};
 
-use mutation_streams::Block;
+use mutation_streams::TapeBlock;
 use std::alloc::Global;
 use std::collections::VecDeque;
 use tierra_model::OutOfMemory;
@@ -54,7 +54,7 @@ pub(crate) struct Shelf<P> {
     // Parcels for the hand, in order.
     parcels: VecDeque<P>,
     // Draws that were made ahead, in no order.
-    blocks: Vec<Block>,
+    blocks: Vec<TapeBlock>,
     // The quantum that is run next.
     at: u64,
     // The first quantum whose draws nobody makes yet.
@@ -145,7 +145,7 @@ impl<P: Drop> Shelf<P> {
 
     /// The run has come to this quantum. Takes the block that has its draws, if there is one. Blocks that the run has
     /// passed are dropped.
-    pub(crate) fn block_at(&mut self, at: u64) -> Option<Block>
+    pub(crate) fn block_at(&mut self, at: u64) -> Option<TapeBlock>
         ensures { self.new ≡ record self.old { at = at; blocks = self.new.blocks } }
     {
         self.at = at;
@@ -155,7 +155,7 @@ impl<P: Drop> Shelf<P> {
     }
 
     /// Lays down a block. If there is no memory, it is dropped.
-    pub(crate) fn add(&mut self, block: Block) {
+    pub(crate) fn add(&mut self, block: TapeBlock) {
         let _no_memory = self.blocks.push(block);
     }
 

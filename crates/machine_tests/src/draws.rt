@@ -1,6 +1,6 @@
 //! Draws against words of ChaCha8 that another program worked out.
 
-use mutation_streams::{Block, Draws, Entry, NoTape, Tape};
+use mutation_streams::{TapeBlock, Draws, TapeEntry, NoTape, Tape};
 use std::alloc::Global;
 use tierra_model::{OutOfMemory, Settings, defaults};
 
@@ -150,7 +150,7 @@ fn drawn_by_entry(
     i: u32,
     reach: u32,
 ) -> Result<Drawn, OutOfMemory> {
-    let entry = Entry::of(alloc, settings, q, reach)?;
+    let entry = TapeEntry::of(alloc, settings, q, reach)?;
     let mut draws = Draws::of_entry(settings, q, reach, entry);
     Ok(asked(&mut draws, i))
 }
@@ -170,8 +170,8 @@ fn an_entry_says_what_the_stream_says(rt: HostRuntime) {
 
 // The entries of the quantum before q and of the seven after that one, for 25 instructions. At the rates of the rows
 // several things happen in each quantum.
-fn block_at(alloc: Global, settings: &Settings, q: u64) -> Result<Block, OutOfMemory> {
-    Block::write(alloc, settings, q.saturating_sub(1).min(1 << 40), 8, 25)
+fn block_at(alloc: Global, settings: &Settings, q: u64) -> Result<TapeBlock, OutOfMemory> {
+    TapeBlock::write(alloc, settings, q.saturating_sub(1).min(1 << 40), 8, 25)
 }
 
 fn drawn_off_block(

@@ -4,14 +4,14 @@ ghost use Rattle.std.specs.Prelude.{◌≡◌, ◌↔◌, ◌+◌, ◌<◌, ◌�
 ghost use Rattle.mutation_streams.specs.Draws.{draws_of};
 ghost use Rattle.mutation_streams.specs.Entries.{HasEntry, entry_of};
 
-use crate::{Draws, Entry};
+use crate::{Draws, TapeEntry};
 use std::alloc::Global;
 use std::marker::Model;
 use tierra_model::{OutOfMemory, Settings};
 
 /// The entries of a run of quanta, which are taken in order.
 #[derive(Debug, Drop)]
-pub struct Block {
+pub struct TapeBlock {
     seed: [u8; 32],
     soup_size: u32,
     back_rate: u32,
@@ -22,10 +22,10 @@ pub struct Block {
     begin: u64,
     // the first quantum whose entry was not passed yet
     next: u64,
-    entries: Vec<Entry>,
+    entries: Vec<TapeEntry>,
 }
 
-impl Model for Block {
+impl Model for TapeBlock {
     ghost use Rattle.std.specs.Prelude.{◌+◌, length};
     ghost use Rattle.mutation_streams.specs.Entries.{BlockFields, IsBlock};
 
@@ -54,7 +54,7 @@ impl Model for Block {
     }) b.begin b.reach b.entries.items };
 }
 
-impl Block {
+impl TapeBlock {
     /// Writes the entries of `count` quanta from `first` on, each for the first `reach` instructions.
     pub fn write(
         alloc: Global,
@@ -62,16 +62,16 @@ impl Block {
         first: u64,
         count: u32,
         reach: u32,
-    ) -> Result<Block, OutOfMemory>
+    ) -> Result<TapeBlock, OutOfMemory>
         requires { first + count < 2 ^ 64 }
         ensures { IfOk result (λ b. b
             ≡ record { next = draws_of settings.now first; reach = reach; end = first + count }) }
     {
         let mut entries = Vec::with_capacity(alloc, count as usize)?;
         for k in 0..count {
-            entries.push(Entry::of(alloc, settings, first + u64::from(k), reach)?)?;
+            entries.push(TapeEntry::of(alloc, settings, first + u64::from(k), reach)?)?;
         }
-        Ok(Block {
+        Ok(TapeBlock {
             seed: settings.seed,
             soup_size: settings.soup_size,
             back_rate: settings.back_rate,
@@ -115,7 +115,7 @@ impl Block {
     }
 
     // The entry of quantum `q`.
-    fn take(&mut self, settings: &Settings, q: u64) -> Option<Entry>
+    fn take(&mut self, settings: &Settings, q: u64) -> Option<TapeEntry>
         ensures entry { IfSome result (λ e. e ≡ entry_of (draws_of settings.now q) self.old.reach) }
         ensures there { IsSome result ↔ HasEntry self.old settings.now q }
         ensures taken { IsSome result → self.new ≡ record self.old {

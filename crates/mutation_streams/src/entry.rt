@@ -35,11 +35,11 @@ struct Due {
 
 /// What chance does in a quantum, in its first instructions. It is one word where nothing is due.
 #[derive(Debug, Drop)]
-pub struct Entry {
+pub struct TapeEntry {
     due: Option<Box<Due>>,
 }
 
-impl Model for Entry {
+impl Model for TapeEntry {
     ghost use Rattle.mutation_streams.specs.Entries.{EntryFields, listed};
 
     ghost Value = { EntryFields };
@@ -47,9 +47,9 @@ impl Model for Entry {
     ghost view = { λ e. listed e.due };
 }
 
-impl Entry {
+impl TapeEntry {
     /// The entry of quantum `q`, for its first `reach` instructions.
-    pub fn of(alloc: Global, settings: &Settings, q: u64, reach: u32) -> Result<Entry, OutOfMemory>
+    pub fn of(alloc: Global, settings: &Settings, q: u64, reach: u32) -> Result<TapeEntry, OutOfMemory>
         ensures { IfOk result (λ e. e ≡ entry_of (draws_of settings.now q) reach) }
     {
         let mut draws = Draws::new(settings, q);
@@ -62,24 +62,24 @@ impl Entry {
             }
         }
         if back.is_none() && chances.is_empty() {
-            return Ok(Entry::nothing());
+            return Ok(TapeEntry::nothing());
         }
         let due = Box::new(alloc, Due { back, chances })?;
-        Ok(Entry { due: Some(due) })
+        Ok(TapeEntry { due: Some(due) })
     }
 
     /// The entry of a quantum in which nothing is due.
-    pub(crate) fn nothing() -> Entry
+    pub(crate) fn nothing() -> TapeEntry
         ensures { result ≡ record { back = None; due = [] } }
     {
-        Entry { due: None }
+        TapeEntry { due: None }
     }
 
     /// Takes the entry out; one in which nothing is due stays.
-    pub(crate) fn take(&mut self) -> Entry
+    pub(crate) fn take(&mut self) -> TapeEntry
         ensures { result ≡ self.old }
     {
-        Entry {
+        TapeEntry {
             due: self.due.take(),
         }
     }

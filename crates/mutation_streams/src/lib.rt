@@ -12,9 +12,9 @@ ghost use Rattle.tierra_model.specs.Draw.{back_flip, copy_bit, flaw, word};
 ghost use Rattle.mutation_streams.specs.Draws.{draws_of};
 ghost use Rattle.mutation_streams.specs.Entries.{chance_of, entry_of};
 
-pub use crate::block::Block;
+pub use crate::block::TapeBlock;
 use crate::entry::Chance;
-pub use crate::entry::Entry;
+pub use crate::entry::TapeEntry;
 use crate::reading::Reading;
 pub use crate::tape::{NoTape, Tape};
 use std::marker::Model;
@@ -34,7 +34,7 @@ pub struct Draws {
     flaw_rate: u32,
     reading: Option<Reading>,
     reach: u32,
-    entry: Entry,
+    entry: TapeEntry,
 }
 
 impl Model for Draws {
@@ -81,13 +81,13 @@ impl Draws {
             flaw_rate: settings.flaw_rate,
             reading: None,
             reach: 0,
-            entry: Entry::nothing(),
+            entry: TapeEntry::nothing(),
         }
     }
 
     /// The same draws, from the quantum's entry.
     #[inline]
-    pub fn of_entry(settings: &Settings, q: u64, reach: u32, entry: Entry) -> Draws
+    pub fn of_entry(settings: &Settings, q: u64, reach: u32, entry: TapeEntry) -> Draws
         requires { entry ≡ entry_of (draws_of settings.now q) reach }
         ensures { result ≡ draws_of settings.now q }
     {

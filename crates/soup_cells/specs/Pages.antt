@@ -6,6 +6,7 @@ use Rattle.std.specs.declared.alloc.Global.{Global}
 use Rattle.std.specs.declared.sync.Arc.{Arc}
 use Rattle.soup_cells.specs.declared.page.Page.{Page}
 use Rattle.soup_cells.specs.declared.page.Page.TheVariants.{Own, Shared}
+use Rattle.soup_cells.specs.declared.page.TheConstants.{PAGE}
 
 abbrev pub SharedPage : Type 0
 SharedPage = Arc (Vec ℕ Global) Global
@@ -25,10 +26,10 @@ is_own (Shared cells) = false
 abbrev pub cells_of : List Page → List ℕ
 cells_of pages = concat (map page_cells pages)
 
--- the pages of n cells: each has 16384, but the last may have fewer
+-- the pages of n cells: each has PAGE, but the last may have fewer
 abbrev pub ArePages : ℕ → List (List ℕ) → Type 0
 ArePages n [] = n ≡ 0
-ArePages n (page ∷ pages) = (0 < n) × (length page ≡ min 16384 n) × ArePages (n - 16384) pages
+ArePages n (page ∷ pages) = (0 < n) × (length page ≡ min PAGE n) × ArePages (n - PAGE) pages
 
 -- the pages of n cells, each with an instruction's code
 pub record AreCells (n : ℕ) (pages : List (List ℕ)) : Type 0 where

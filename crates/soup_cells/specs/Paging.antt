@@ -5,6 +5,7 @@ use Rattle.std.specs.Arc.{arc_value}
 use Rattle.soup_cells.specs.declared.soup.Paging.{Paging}
 use Rattle.soup_cells.specs.declared.soup.Paging.TheVariants.{Own, Shared, Uncut}
 use Rattle.soup_cells.specs.Soup.{SoupFields}
+use Rattle.soup_cells.specs.declared.page.TheConstants.{PAGE}
 
 -- the cells of the pages, if the cells are cut into pages
 abbrev pub cells_in : Paging → Option (List ℕ)
@@ -18,7 +19,7 @@ AreIn row paging = IfSome (cells_in paging) (λ cells. cells ≡ row)
 
 -- for each page of the row, whether it is the soup's own: all are if they are not cut, and none if they are shared
 abbrev pub own_of : List ℕ → Paging → List Bool
-own_of row Uncut = replicate ((length row + 16383) / 16384) true
+own_of row Uncut = replicate ((length row + 16383) / PAGE) true
 own_of row (Own pages) = pages.own
 own_of row (Shared pages) = []
 

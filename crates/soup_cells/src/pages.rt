@@ -3,6 +3,7 @@
 ghost use Rattle.std.specs.Prelude.{◌≡◌, ◌+◌, ◌*◌, ◌<◌, ◌^◌, ℕ, [], All, IfOk, OnOk, length, map, min, slice_index, slice_range, slice_set, true, vec_len};
 ghost use Rattle.soup_cells.specs.Soup.{is_ready};
 ghost use Rattle.soup_cells.specs.Pages.{page_cells};
+ghost use Rattle.soup_cells.specs.declared.page.TheConstants.{PAGE};
 
 use crate::page::{PAGE_LEN, Page};
 use std::alloc::Global;
@@ -108,11 +109,11 @@ impl Pages {
         self.size
     }
 
-    /// The cells of a page: 16384, or fewer on the last page.
+    /// The cells of a page: `PAGE`, or fewer on the last page.
     pub(crate) fn page(&self, number: u32) -> &[u8]
-        requires { 16384 * number < length self.now.cells }
-        ensures cells { result.now ≡ slice_range self.now.cells (16384 * number)
-            (min (16384 * number + 16384) (length self.now.cells)) }
+        requires { PAGE * number < length self.now.cells }
+        ensures cells { result.now ≡ slice_range self.now.cells (PAGE * number)
+            (min (PAGE * number + PAGE) (length self.now.cells)) }
         ensures codes { (p : ℕ) → p < length result.now → slice_index result.now p < 32 }
     {
         self.pages[number as usize].cells()

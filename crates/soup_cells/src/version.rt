@@ -2,6 +2,7 @@
 
 ghost use Rattle.std.specs.Prelude.{◌≡◌, ◌+◌, ◌*◌, ◌<◌, ℕ, length, min, slice_index, slice_range};
 ghost use Rattle.std.specs.Arc.{arc_value};
+ghost use Rattle.soup_cells.specs.declared.page.TheConstants.{PAGE};
 
 use crate::pages::Pages;
 use std::marker::Model;
@@ -45,11 +46,11 @@ impl Version {
         self.pages.size()
     }
 
-    /// The cells of a page: 16384, or fewer on the last page.
+    /// The cells of a page: `PAGE`, or fewer on the last page.
     pub fn page(&self, number: u32) -> &[u8]
-        requires { 16384 * number < length self.now }
+        requires { PAGE * number < length self.now }
         ensures cells { result.now
-            ≡ slice_range self.now (16384 * number) (min (16384 * number + 16384) (length self.now)) }
+            ≡ slice_range self.now (PAGE * number) (min (PAGE * number + PAGE) (length self.now)) }
         ensures codes { (p : ℕ) → p < length result.now → slice_index result.now p < 32 }
     {
         self.pages.page(number)

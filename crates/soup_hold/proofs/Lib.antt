@@ -1,5 +1,4 @@
 pub mod Quanta
-pub mod Telling
 pub mod Appending
 pub mod Steps
 pub mod Places

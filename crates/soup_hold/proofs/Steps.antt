@@ -13,11 +13,12 @@ use Rattle.soup_checkpoint.specs.declared.owner.Owner.{Owner}
 use Rattle.soup_checkpoint.specs.Shelf.{IsAttached, SaysSame, ShelfState}
 use Rattle.soup_hold.specs.declared.stop.HoldStop.{HoldStop}
 use Rattle.soup_hold.specs.declared.stop.HoldStop.TheVariants as stop
-use Rattle.soup_hold.specs.Holding.{BeginsWithText, HoldsAfter, HoldsWorld, IsHolding, IsSmall}
+use Rattle.desk_io.specs.Told.{BeginsWithText}
+use Rattle.soup_hold.specs.Holding.{HoldsAfter, HoldsWorld, IsHolding, IsSmall}
 use Rattle.soup_hold.specs.Steps.{HasHeld, HasStopped, HoldsNext, IsHoldingNext, IsLargeAt, IsLargeFirst, IsWorldAfter}
 use Rattle.soup_hold.specs.Stops.{CountsStop, IfRefused}
 use Rattle.soup_hold.specs.Text.{held_line, held_lines, world_at}
-use Rattle.soup_hold.proofs.Telling.{Appended-then, ToldSoFar, as_told, nothing_appended, piece_begun, told_after}
+use Rattle.desk_io.proofs.Telling.{Appended-then, ToldSoFar, as_told, nothing_appended, piece_begun, told_after}
 use Rattle.tierra_model.specs.World.{World}
 use Rattle.world_state.specs.StateBytes.{state_bytes}
 
@@ -59,6 +60,21 @@ begins_still quanta i j piece le =
       ap (λ (l : List ℕ). l ++ piece) fewer.1 ∙ append_assoc (held_lines (take i quanta)) fewer.0 piece,
     )
 
+-- and so do some of the next one's
+lines_and_some : (quanta : List ℕ) (j q i : ℕ) → slice_get quanta j ≡ Some q
+    → BeginsWithText (held_lines (take j quanta) ++ take i (held_line q)) (held_lines quanta)
+lines_and_some quanta j q i at =
+    let lines = held_lines (take j quanta) in
+    let some = take i (held_line q) in
+    let rest = drop i (held_line q) in
+    let left = held_lines (drop (j + 1) quanta) in (
+      rest ++ left,
+      ap held_lines (sym (take-append-drop j quanta)) ∙ flat_map-append held_line (take j quanta) (drop j quanta)
+          ∙ ap (λ (l : List ℕ). lines ++ l) (lines-rest quanta j q at ∙ ap (λ (l : List ℕ). l ++ left) (sym (take-append-drop i (held_line q)))
+          ∙ append_assoc some rest left)
+          ∙ sym (append_assoc lines some (rest ++ left)),
+    )
+
 -- the lines of the first j were told
 pub lines_told : (quanta : List ℕ) (j : ℕ) (before now : Option (List ℕ)) → Appended before (held_lines (take j quanta)) now
     → ToldSoFar (held_lines quanta) (held_lines (drop j quanta)) before now
@@ -85,38 +101,40 @@ module _ (owner : Owner) (first : World) (quanta : List ℕ) where
       (held.0, held.1, ((same (Ok (Some (state_bytes (world_at first held.0))))).0 held.2.0, held.2.1))
 
   abbrev Holding : List ℕ → Option (List ℕ) → List ℕ → List ℕ → Type 0
-  Holding file = IsHolding owner (SaysSame owner file) first quanta
+  Holding file = IsHolding owner (SaysSame owner file) first quanta (held_lines quanta)
 
   holding_next : (file between : List ℕ) (before now : Option (List ℕ)) (j q : ℕ) (image text : List ℕ) → slice_get quanta j ≡ Some q
       → HoldsAfter owner (SaysSame owner file) first quanta j between → Appended before (held_lines (take j quanta)) now
       → IsHoldingNext owner between (world_at first q) (held_line q) now image text → Holding file before image text
   holding_next file between before now j q image text at held told (inl (same, untold)) = record {
-    j = j;
-    piece = held_lines (take j quanta) ++ [];
+    k = j;
     inside = omega (arith, slice_get_within quanta j q at);
-    holds = says_on file between image j held same;
+    has = says_on file between image j held same;
+    piece = held_lines (take j quanta) ++ [];
     told = told_after before now (held_lines (take j quanta)) text [] text told untold (sym (append-nil text));
     kept_up = begins_still quanta (j - 1) j [] (omega arith);
-    covered = λ more. omega (arith, length-append (held_lines (take j quanta)) []);
+    covered = inr (omega (arith, length-append (held_lines (take j quanta)) []));
+    part = lines_and_some quanta j q 0 at;
   }
   holding_next file between before now j q image text at held told (inr (holds, telling)) =
       let piece : List ℕ = take telling.0 (held_line q) in
       let next : held_lines (take (suc j) quanta) ≡ held_lines (take j quanta) ++ held_line q =
       subst (λ (k : ℕ). held_lines (take k quanta) ≡ held_lines (take j quanta) ++ held_line q) (add-one j) (lines-next quanta j q at) in
       record {
-        j = suc j;
-        piece = held_lines (take j quanta) ++ piece;
+        k = suc j;
         inside = omega (arith, slice_get_within quanta j q at);
-        holds = (q, at, holds);
+        has = (q, at, holds);
+        piece = held_lines (take j quanta) ++ piece;
         told = told_after before now (held_lines (take j quanta)) telling.1.0 piece text told telling.1.1 telling.1.2;
         kept_up = begins_still quanta (suc j - 1) j piece (omega arith);
-        covered = λ more. omega (
+        covered = inr (omega (
           arith,
           ap length next,
           length-append (held_lines (take j quanta)) (held_line q),
           length-append (held_lines (take j quanta)) piece,
           length-take telling.0 (held_line q),
-        );
+        ));
+        part = lines_and_some quanta j q telling.0 at;
       }
 
   -- ---- from one to the next

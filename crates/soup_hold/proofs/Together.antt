@@ -1,11 +1,12 @@
 -- What comes of a run, by how it began and how it went on.
-use Rattle.std.proofs.Common.{◌≡◌, ◌⊎◌, inl, inr, refl, sym, subst, ℕ, ◌<◌, ◌≤◌, List, take, Option, Some, Result, Ok, Err, OnOk, All}
-use Rattle.std.specs.Prelude.{IfErr, IfSome}
+use Rattle.std.proofs.Common.{◌≡◌, ◌⊎◌, inl, inr, refl, sym, subst, ℕ, ◌<◌, ◌≤◌, List, length, Option, Some, Result, Ok, Err, OnOk, All}
+use Rattle.std.specs.Prelude.{IfErr, IfSome, IsSomeAnd}
 use Rattle.desk_io.specs.Desk.{Appended, AppendedSome, DeskState, Elapses, TellsText, UsesDisk}
+use Rattle.desk_io.specs.Told.{AppendedLess}
 use Rattle.desk_io.proofs.Time.{Elapses-then, Elapses-weaker}
 use Rattle.file_journal.specs.Files.{IsFresh}
 use Rattle.file_journal.specs.Steps.{IfTold, IsUnwritten}
-use Rattle.file_journal.proofs.Times.{each_file, for_file}
+use Rattle.file_journal.proofs.Times.{at_file, each_file, for_file, told_now}
 use Rattle.soup_checkpoint.specs.declared.faults.HoldFault.{HoldFault}
 use Rattle.soup_checkpoint.specs.declared.faults.HoldFault.TheVariants as fault
 use Rattle.soup_checkpoint.specs.declared.owner.Owner.{Owner}
@@ -13,21 +14,25 @@ use Rattle.soup_checkpoint.specs.Hold.{HoldSays, owner_of, title}
 use Rattle.soup_checkpoint.specs.Shelf.{IsOfFile, Refuses, SaysAsBefore, SaysSame, ShelfState}
 use Rattle.soup_hold.specs.declared.stop.HoldStop.{HoldStop}
 use Rattle.soup_hold.specs.declared.stop.HoldStop.TheVariants as stop
-use Rattle.soup_hold.specs.Holding.{AppendedLess, CanHold, DiskHolds, GoesOnFrom, HoldsState, IsBeyond, IsCutShort, IsEarly, IsFirst, IsHolding, IsHoldText}
-use Rattle.soup_hold.specs.Holding.{IsSmall, RefusesHold}
+use Rattle.soup_hold.specs.Holding.{CanHold, EndsWithLast, ForHoldText, GoesOnFrom, HoldsOn, HoldsState, IsBeyond, IsEarly, IsFirst, IsHolding}
+use Rattle.soup_hold.specs.Holding.{IsHoldingOn, IsHoldText, IsLast, IsSmall, RefusesHold}
 use Rattle.soup_hold.specs.Ending.{IsDone, IsRefused, IsStopped}
 use Rattle.soup_hold.specs.Steps.{Begins, IsLargeFirst}
 use Rattle.soup_hold.specs.Stops.{IfRefused, UnlessTelling}
 use Rattle.soup_hold.specs.Text.{held_quanta, hold_text, world_at}
 use Rattle.soup_hold.proofs.Refusing.{goes_on_no_further, not_fresh, one_beginning}
 use Rattle.soup_hold.proofs.Stopping.{unless_telling}
-use Rattle.soup_hold.proofs.Whole.{beginning_time, begins_there, going_on_time, not_early, too_large}
+use Rattle.soup_hold.proofs.Whole.{beginning_time, begins_there, going_on_time, holds_on, not_early, too_large}
 use Rattle.tierra_model.specs.Setups.{SetupFields}
 use Rattle.tierra_model.specs.World.{World}
 
 module _ (setup : SetupFields) (n every : ℕ) (old : DeskState) where
   abbrev Quiet : DeskState → Type 0
   Quiet new = Elapses old new (λ image text. old.may_leave image)
+
+  -- nothing was told, or the first bytes of a text of the run, but not all of them
+  abbrev CutShort : DeskState → Type 0
+  CutShort new = (new.told ≡ old.told) ⊎ ForHoldText setup n every old.reads (λ text. AppendedLess old.told text new.told)
 
   abbrev QuietWhereRefused : DeskState → HoldFault → Type 0
   QuietWhereRefused new f = IfSome old.reads (λ file. RefusesHold setup n every (Some file) f → Quiet new)
@@ -39,6 +44,13 @@ module _ (setup : SetupFields) (n every : ℕ) (old : DeskState) where
       each_file old.reads (λ (file : List ℕ). (IsFresh title file → ⊥) → UsesDisk old mid old.may_leave)
       (λ (file : List ℕ). RefusesHold setup n every (Some file) f → Quiet mid)
       (λ file is uses r. Elapses-weaker (λ image text m. m.0) (uses (not_fresh setup n every file f early r)).time) quiet
+
+  -- until it is attached, the file says what it might have said
+  pub begun_time : (mid : DeskState) → UsesDisk old mid (IfTold old (SaysAsBefore (owner_of setup) old.may_leave)) → HoldsOn setup n every old mid
+  begun_time mid uses =
+      for_file old.reads (λ (file : List ℕ). (held : Option (List ℕ)) (first : World) → HoldsState setup held file → IsFirst setup held first
+      → Elapses old mid (IsHoldingOn setup held first n every old.may_leave file old.told))
+      (λ file told held first holds is. beginning_time setup held first n every old mid file told uses)
 
   -- what is wrong with the file is why it is refused
   of_file : (f : HoldFault) → IsOfFile f → IfSome old.reads (λ file. HoldSays file setup (Err f)) → RefusesHold setup n every old.reads f
@@ -64,7 +76,7 @@ module _ (setup : SetupFields) (n every : ℕ) (old : DeskState) where
       → IfRefused s (λ f. IsOfFile f × Refuses (owner_of setup) old mid f) → IsStopped setup n every old mid s
   stopped_attaching mid s same refused = record {
     partly = inl same;
-    unfinished = unless_telling s (IsCutShort setup n every old.reads old.told mid.told) (inl same);
+    unfinished = unless_telling s (CutShort mid) (inl same);
     refused = refused_attaching mid s same refused;
   }
 
@@ -106,20 +118,49 @@ module _ (setup : SetupFields) (n every : ℕ) (old : DeskState) where
         for_file old.reads (λ (file : List ℕ). RefusesHold setup n every (Some file) f → Quiet new)
         (λ file is r. absurd (goes_on_no_further setup n every file w f early (goes_from file is) within r))
 
-    pub whole_time : (new : DeskState) → UsesDisk old mid (IfTold old (SaysAsBefore (owner_of setup) old.may_leave))
-        → IfSome mid.reads (λ file. Elapses mid new (IsHolding s.owner (SaysSame s.owner file) w (held_quanta every w.quanta n) mid.told))
-        → (held : Option (List ℕ)) (first : World) → DiskHolds setup held old.reads old.may_leave → IsFirst setup held first
-        → Elapses old new (IsHolding (owner_of setup) (HoldsState setup held) first (held_quanta every first.quanta n) old.told)
-    whole_time new uses time held first disk is =
-        let there = begins_there setup held first w old mid s disk is b in
-        let owned = subst (λ (o : Owner). IfSome mid.reads (λ file. Elapses mid new (IsHolding o (SaysSame o file) w (held_quanta every w.quanta n) mid.told)))
-        b.owner_is time in
-        let mine = subst (λ (v : World). IfSome mid.reads
-        (λ file. Elapses mid new (IsHolding (owner_of setup) (SaysSame (owner_of setup) file) v (held_quanta every v.quanta n) mid.told)))
+    -- what is said of the moments after the file was attached, where it is the setup's and goes on from this world
+    pub whole_time : (new : DeskState) → w.quanta ≤ n → UsesDisk old mid (IfTold old (SaysAsBefore (owner_of setup) old.may_leave))
+        → IfSome mid.reads (λ file. Elapses mid new
+        (IsHolding s.owner (SaysSame s.owner file) w (held_quanta every w.quanta n) (hold_text w n every) mid.told))
+        → HoldsOn setup n every old new
+    whole_time new within uses time =
+        for_file old.reads (λ (file : List ℕ). (held : Option (List ℕ)) (first : World) → HoldsState setup held file → IsFirst setup held first
+        → Elapses old new (IsHoldingOn setup held first n every old.may_leave file old.told)) (λ file told held first holds is.
+        let there = begins_there setup held first w old mid s file told holds is b in
+        let owned = subst (λ (o : Owner). IfSome mid.reads (λ file. Elapses mid new
+        (IsHolding o (SaysSame o file) w (held_quanta every w.quanta n) (hold_text w n every) mid.told))) b.owner_is time in
+        let mine = subst (λ (v : World). IfSome mid.reads (λ file. Elapses mid new
+        (IsHolding (owner_of setup) (SaysSame (owner_of setup) file) v (held_quanta every v.quanta n) (hold_text v n every) mid.told)))
         (sym there.0) owned in
-        let quanta = held_quanta every first.quanta n in
-        Elapses-then (beginning_time setup held first quanta old mid disk uses)
-        (going_on_time setup held first quanta old mid new uses.told there.1 mine)
+        Elapses-then (beginning_time setup held first n every old mid file told uses)
+        (going_on_time setup held first n every old mid new file (subst (λ (v : World). v.quanta ≤ n) (sym there.0) within) uses.told there.1 mine))
+
+    -- the file that it ends with
+    ends_with_last : (new : DeskState)
+        → IfSome mid.reads (λ file. IsLast s.owner (SaysSame s.owner file) w (held_quanta every w.quanta n) new)
+        → IfSome old.reads (λ file. EndsWithLast setup n every file new)
+    ends_with_last new last =
+        each_file old.reads (λ (file : List ℕ). IsSomeAnd mid.reads (HoldsState setup b.goes_on.held))
+        (λ (file : List ℕ). EndsWithLast setup n every file new)
+        (λ file is still.
+        let there = told_now mid.reads (HoldsState setup b.goes_on.held) still in
+        let quanta = held_quanta every w.quanta n in
+        let here = at_file mid.reads (λ (f : List ℕ). IsLast s.owner (SaysSame s.owner f) w quanta new) there.0 there.1 last in
+        let mine = subst (λ (o : Owner). IsLast o (SaysSame o there.0) w quanta new) b.owner_is here in
+        record {
+          first = w;
+          goes_on = record {
+            held = b.goes_on.held;
+            read = at_file old.reads (HoldsState setup b.goes_on.held) file is b.goes_on.read;
+            is_first = b.goes_on.is_first;
+          };
+          last = record {
+            file = mine.file;
+            told = mine.told;
+            only = mine.only;
+            holds = holds_on setup b.goes_on.held w quanta there.0 mine.file (length quanta) there.2 mine.holds;
+          };
+        }) b.still
 
     abbrev text : List ℕ
     text = hold_text w n every
@@ -128,21 +169,21 @@ module _ (setup : SetupFields) (n every : ℕ) (old : DeskState) where
     is_text within = record { first = w; goes_on = b.goes_on; not_beyond = within; text_is = refl }
 
     all_told : w.quanta ≤ n → (new : DeskState) → mid.told ≡ old.told → Appended mid.told text new.told
-        → (t : List ℕ) × IsHoldText setup n every old.reads t × Appended old.told t new.told
+        → ForHoldText setup n every old.reads (λ t. Appended old.told t new.told)
     all_told within new same told = (text, is_text within, subst (λ (o : Option (List ℕ)). Appended o text new.told) same told)
 
     part_told : w.quanta ≤ n → (new : DeskState) → mid.told ≡ old.told → AppendedSome mid.told text new.told
-        → (new.told ≡ old.told) ⊎ ((t : List ℕ) × (k : ℕ) × IsHoldText setup n every old.reads t × Appended old.told (take k t) new.told)
+        → (new.told ≡ old.told) ⊎ ForHoldText setup n every old.reads (λ t. AppendedSome old.told t new.told)
     part_told within new same some =
-        inr (text, some.0, is_text within, subst (λ (o : Option (List ℕ)). Appended o (take some.0 text) new.told) same some.1)
+        inr (text, is_text within, subst (λ (o : Option (List ℕ)). AppendedSome o text new.told) same some)
 
     cut_short_now : (new : DeskState) → w.quanta ≤ n → mid.told ≡ old.told → AppendedLess mid.told text new.told
-        → IsCutShort setup n every old.reads old.told new.told
+        → CutShort new
     cut_short_now new within same less =
         inr (text, is_text within, subst (λ (o : Option (List ℕ)). AppendedLess o text new.told) same less)
 
     cut_short_by : (s : HoldStop) (new : DeskState) → w.quanta ≤ n → mid.told ≡ old.told
-        → UnlessTelling s (AppendedLess mid.told text new.told) → UnlessTelling s (IsCutShort setup n every old.reads old.told new.told)
+        → UnlessTelling s (AppendedLess mid.told text new.told) → UnlessTelling s (CutShort new)
     cut_short_by stop.TellFault new within same less = tt
     cut_short_by (stop.Refused f) new within same less = cut_short_now new within same less
     cut_short_by stop.DiskFault new within same less = cut_short_now new within same less
@@ -160,9 +201,15 @@ module _ (setup : SetupFields) (n every : ℕ) (old : DeskState) where
         })
 
     pub done_then : {T : Type 0} (r : Result T HoldStop) (new : DeskState) → w.quanta ≤ n → mid.told ≡ old.told → TellsText mid new text r
-        → OnOk r (All (λ q. IsSmall (world_at w q)) (held_quanta every w.quanta n)) → OnOk r (IsDone setup n every old new)
-    done_then (Ok x) new within same tells small = record { told = all_told within new same tells.all; small = all_small small }
-    done_then (Err s) new within same tells small = tt
+        → OnOk r (All (λ q. IsSmall (world_at w q)) (held_quanta every w.quanta n))
+        → OnOk r (IfSome mid.reads (λ file. IsLast s.owner (SaysSame s.owner file) w (held_quanta every w.quanta n) new))
+        → OnOk r (IsDone setup n every old new)
+    done_then (Ok x) new within same tells small last = record {
+      told = all_told within new same tells.all;
+      small = all_small small;
+      last = ends_with_last new last;
+    }
+    done_then (Err s) new within same tells small last = tt
 
     refused_by : (s : HoldStop) (new : DeskState) → IfRefused s (IsLargeFirst w (held_quanta every w.quanta n))
         → IfRefused s (IsRefused setup n every old new)

@@ -1,24 +1,26 @@
 -- A whole run, from its file to its report.
-use Rattle.std.proofs.Common.{◌≡◌, ◌∙◌, ◌⊎◌, inl, inr, refl, sym, ap, subst, arith, ℕ, zero, suc, ◌-◌, ◌<◌, List, [], ◌++◌, length, take, append-nil, Option}
+use Rattle.std.proofs.Common.{◌≡◌, ◌∙◌, inl, inr, refl, sym, ap, subst, arith, ℕ, zero, suc, ◌-◌, ◌<◌, List, ◌++◌, length, take, drop, append_assoc, take-append-drop, Option}
 use Rattle.std.proofs.Common.{Some, None, Result, Ok}
 use Rattle.std.specs.Prelude.{IfSome, IsSomeAnd}
 use Rattle.std.proofs.lemmas.List.{take_all}
 use Rattle.desk_io.specs.Desk.{Appended, DeskState, Elapses, Tells, UsesDisk}
+use Rattle.desk_io.specs.Told.{BeginsWithText}
+use Rattle.desk_io.proofs.Telling.{told_after}
 use Rattle.desk_io.proofs.Time.{Elapses-then, Elapses-weaker}
+use Rattle.desk_io.proofs.Told.{follow_by, follow_longer}
 use Rattle.file_journal.specs.Steps.{IfTold}
-use Rattle.file_journal.proofs.Times.{at_file, for_file, told_now}
+use Rattle.file_journal.proofs.Times.{at_file, each_file, for_file, told_now}
 use Rattle.report_text.specs.Report.{report}
 use Rattle.serial_slicer.specs.Onward.{after}
 use Rattle.soup_checkpoint.specs.declared.faults.HoldFault.{HoldFault}
 use Rattle.soup_checkpoint.specs.declared.owner.Owner.{Owner}
 use Rattle.soup_checkpoint.specs.Hold.{owner_of}
 use Rattle.soup_checkpoint.specs.Shelf.{Attaches, SaysAsBefore, SaysSame, ShelfState}
-use Rattle.soup_hold.specs.Holding.{BeginsWithText, DiskHolds, GoesOnFrom, HoldsAfter, HoldsState, IsFirst, IsHolding, IsEarly, IsTooLarge, RefusesHold}
+use Rattle.soup_hold.specs.Holding.{GoesOnFrom, HoldsAfter, HoldsState, IsFirst, IsHolding, IsHoldingOn, IsEarly, IsLast, IsTooLarge, RefusesHold}
 use Rattle.soup_hold.specs.Steps.{Begins, HasHeld, IsLargeFirst}
-use Rattle.soup_hold.specs.Text.{held_lines, held_quanta, last_report, world_at}
+use Rattle.soup_hold.specs.Text.{held_lines, held_quanta, hold_text, last_report, world_at}
 use Rattle.soup_hold.proofs.Refusing.{one_first, one_held}
 use Rattle.soup_hold.proofs.Steps.{begins_still}
-use Rattle.soup_hold.proofs.Telling.{told_after}
 use Rattle.tierra_model.specs.Serial.{start}
 use Rattle.tierra_model.specs.Setups.{SetupFields}
 use Rattle.tierra_model.specs.World.{World}
@@ -39,8 +41,17 @@ unfolding last_report
 report_has_bytes first n = omega arith
 
 module _ (owner : Owner) (first : World) (quanta : List ℕ) where
-  abbrev Holding : List ℕ → Option (List ℕ) → List ℕ → List ℕ → Type 0
+  abbrev Holding : List ℕ → List ℕ → Option (List ℕ) → List ℕ → List ℕ → Type 0
   Holding file = IsHolding owner (SaysSame owner file) first quanta
+
+  -- while the lines are told, of a text that goes on with the report
+  pub lines_time : (report : List ℕ) (old now : DeskState)
+      → IfSome old.reads (λ file. Elapses old now (Holding file (held_lines quanta) old.told))
+      → IfSome old.reads (λ file. Elapses old now (Holding file (held_lines quanta ++ report) old.told))
+  lines_time report old now =
+      each_file old.reads (λ (file : List ℕ). Elapses old now (Holding file (held_lines quanta) old.told))
+      (λ (file : List ℕ). Elapses old now (Holding file (held_lines quanta ++ report) old.told))
+      (λ file is time. Elapses-weaker (λ image text m. follow_longer m report) time)
 
   -- all lines were told
   pub all_lines : (before now : Option (List ℕ)) → Appended before (held_lines (take (length quanta) quanta)) now
@@ -51,7 +62,7 @@ module _ (owner : Owner) (first : World) (quanta : List ℕ) where
 
   telling_time : {T E : Type 0} {result : Result T E} {old mid : DeskState} {s : ShelfState} {w : World} (new : DeskState)
       (report file : List ℕ) → old.reads ≡ Some file → HasHeld owner first quanta old mid (length quanta) s w
-      → Tells mid new report result → Elapses mid new (Holding file old.told)
+      → Tells mid new report result → Elapses mid new (Holding file (held_lines quanta ++ report) old.told)
   telling_time {old = old} {mid = mid} new report file is so_far tells =
       let now = at_file old.reads (λ (f : List ℕ). IsSomeAnd mid.reads (HoldsAfter owner (SaysSame owner f) first quanta (length quanta))) file is so_far.holds
       in
@@ -60,94 +71,103 @@ module _ (owner : Owner) (first : World) (quanta : List ℕ) where
       let image_is = at_file mid.reads (λ (f : List ℕ). (i : List ℕ) → mid.may_leave i → i ≡ f) there.0 there.1 so_far.attached.settled.durable image
       ((tells.untouched.crash image).0 m.0) in
       record {
-        j = length quanta;
-        piece = held_lines quanta ++ take m.1.1 report;
+        k = length quanta;
         inside = omega arith;
-        holds = subst (HoldsAfter owner (SaysSame owner file) first quanta (length quanta)) (sym image_is) there.2;
+        has = subst (HoldsAfter owner (SaysSame owner file) first quanta (length quanta)) (sym image_is) there.2;
+        piece = held_lines quanta ++ take m.1.1 report;
         told = told_after old.told mid.told (held_lines quanta) m.1.0 (take m.1.1 report) text (all_lines old.told mid.told so_far.told) m.1.2 m.1.3;
         kept_up =
             let all : take (length quanta) quanta ≡ quanta = take_all (length quanta) quanta (omega arith) in
             subst (λ (l : List ℕ). BeginsWithText (held_lines (take (length quanta - 1) quanta)) (held_lines l ++ take m.1.1 report)) all
             (begins_still quanta (length quanta - 1) (length quanta) (take m.1.1 report) (omega arith));
-        covered = λ more. absurd (omega (arith, more));
+        covered = inl refl;
+        part = (
+          drop m.1.1 report,
+          ap (λ (l : List ℕ). held_lines quanta ++ l) (sym (take-append-drop m.1.1 report))
+              ∙ sym (append_assoc (held_lines quanta) (take m.1.1 report) (drop m.1.1 report)),
+        );
       }) tells.time
 
   pub report_time : {T E : Type 0} {result : Result T E} {old mid : DeskState} {s : ShelfState} {w : World} (new : DeskState) (report : List ℕ)
       → HasHeld owner first quanta old mid (length quanta) s w → Tells mid new report result
-      → IfSome old.reads (λ file. Elapses old new (Holding file old.told))
+      → IfSome old.reads (λ file. Elapses old new (Holding file (held_lines quanta ++ report) old.told))
   report_time {old = old} {mid = mid} new report so_far tells =
-      for_file old.reads (λ (file : List ℕ). Elapses old new (Holding file old.told))
+      for_file old.reads (λ (file : List ℕ). Elapses old new (Holding file (held_lines quanta ++ report) old.told))
       (λ file is.
-      Elapses-then (at_file old.reads (λ (f : List ℕ). Elapses old mid (Holding f old.told)) file is so_far.time)
+      Elapses-then (at_file old.reads (λ (f : List ℕ). Elapses old mid (Holding f (held_lines quanta ++ report) old.told)) file is
+      (lines_time report old mid so_far.time))
       (telling_time new report file is so_far tells))
 
 -- ---- from the file to the end
 
-module _ (setup : SetupFields) (held : Option (List ℕ)) (first : World) (quanta : List ℕ) where
-  abbrev HoldingOn : Option (List ℕ) → List ℕ → List ℕ → Type 0
-  HoldingOn = IsHolding (owner_of setup) (HoldsState setup held) first quanta
+pub holds_on : (setup : SetupFields) (held : Option (List ℕ)) (first : World) (quanta file image : List ℕ) (j : ℕ) → HoldsState setup held file
+    → HoldsAfter (owner_of setup) (SaysSame (owner_of setup) file) first quanta j image
+    → HoldsAfter (owner_of setup) (HoldsState setup held) first quanta j image
+holds_on setup held first quanta file image zero read holds = (holds (Ok held)).0 read
+holds_on setup held first quanta file image (suc j) read holds = holds
 
-  -- an image that says as before holds what was held
-  says_as_before : (may_leave : List ℕ → Type 0) (file image : List ℕ) → HoldsState setup held file
-      → ((was : List ℕ) → may_leave was → HoldsState setup held was) → SaysAsBefore (owner_of setup) may_leave file image
-      → HoldsState setup held image
-  says_as_before may_leave file image read left says = (says.2 (Ok held)).0 (was says.1)
-    where
-      was : may_leave says.0 ⊎ (says.0 ≡ file) → HoldsState setup held says.0
-      was (inl l) = left says.0 l
-      was (inr same) = subst (HoldsState setup held) (sym same) read
+module _ (setup : SetupFields) (held : Option (List ℕ)) (first : World) (n every : ℕ) where
+  abbrev quanta : List ℕ
+  quanta = held_quanta every first.quanta n
+
+  abbrev whole : List ℕ
+  whole = hold_text first n every
 
   -- while the file is attached
-  pub beginning_time : (old mid : DeskState) → DiskHolds setup held old.reads old.may_leave
-      → UsesDisk old mid (IfTold old (SaysAsBefore (owner_of setup) old.may_leave)) → Elapses old mid (HoldingOn old.told)
-  beginning_time old mid disk uses =
+  pub beginning_time : (old mid : DeskState) (file : List ℕ) → old.reads ≡ Some file
+      → UsesDisk old mid (IfTold old (SaysAsBefore (owner_of setup) old.may_leave))
+      → Elapses old mid (IsHoldingOn setup held first n every old.may_leave file old.told)
+  beginning_time old mid file is uses =
       Elapses-weaker (λ image text m.
-      let says = at_file old.reads (λ (f : List ℕ). SaysAsBefore (owner_of setup) old.may_leave f image) disk.file disk.told m.0 in
-      record {
-        j = 0;
-        piece = [];
-        inside = omega arith;
-        holds = says_as_before old.may_leave disk.file image disk.read disk.left says;
-        told = (text, m.1, sym (append-nil text));
-        kept_up = ([], refl);
-        covered = λ more. omega arith;
-      }) uses.time
-
-  holds_on : (file image : List ℕ) (j : ℕ) → HoldsState setup held file
-      → HoldsAfter (owner_of setup) (SaysSame (owner_of setup) file) first quanta j image
-      → HoldsAfter (owner_of setup) (HoldsState setup held) first quanta j image
-  holds_on file image zero read holds = (holds (Ok held)).0 read
-  holds_on file image (suc j) read holds = holds
+      inl (at_file old.reads (λ (f : List ℕ). SaysAsBefore (owner_of setup) old.may_leave f image) file is m.0, m.1)) uses.time
 
   -- and after that
-  pub going_on_time : (old mid new : DeskState) → mid.told ≡ old.told → IsSomeAnd mid.reads (HoldsState setup held)
-      → IfSome mid.reads (λ file. Elapses mid new (IsHolding (owner_of setup) (SaysSame (owner_of setup) file) first quanta mid.told))
-      → Elapses mid new (HoldingOn old.told)
-  going_on_time old mid new told_is still time =
+  pub going_on_time : (old mid new : DeskState) (file : List ℕ) → first.quanta ≤ n → mid.told ≡ old.told → IsSomeAnd mid.reads (HoldsState setup held)
+      → IfSome mid.reads (λ f. Elapses mid new (IsHolding (owner_of setup) (SaysSame (owner_of setup) f) first quanta whole mid.told))
+      → Elapses mid new (IsHoldingOn setup held first n every old.may_leave file old.told)
+  going_on_time old mid new file within told_is still time =
       let there = told_now mid.reads (HoldsState setup held) still in
-      let on = at_file mid.reads (λ (f : List ℕ). Elapses mid new (IsHolding (owner_of setup) (SaysSame (owner_of setup) f) first quanta mid.told)) there.0
-      there.1 time in
-      Elapses-weaker (λ image text m. record {
-        j = m.j;
-        piece = m.piece;
-        inside = m.inside;
-        holds = holds_on there.0 image m.j there.2 m.holds;
-        told = (m.told.0, sym told_is ∙ m.told.1, m.told.2);
-        kept_up = m.kept_up;
-        covered = m.covered;
-      }) on
+      let on = at_file mid.reads (λ (f : List ℕ). Elapses mid new (IsHolding (owner_of setup) (SaysSame (owner_of setup) f) first quanta whole mid.told))
+      there.0 there.1 time in
+      let mine = subst (λ (before : Option (List ℕ)).
+      Elapses mid new (IsHolding (owner_of setup) (SaysSame (owner_of setup) there.0) first quanta whole before)) told_is on in
+      Elapses-weaker (λ image text m.
+      inr (
+        within,
+        follow_by m (HoldsAfter (owner_of setup) (HoldsState setup held) first quanta)
+            (λ k has. holds_on setup held first quanta there.0 image k there.2 has),
+      )) mine
 
 -- what a run goes on from is what the file holds
-pub begins_there : (setup : SetupFields) (held : Option (List ℕ)) (first w : World) (old mid : DeskState) (s : ShelfState)
-    → DiskHolds setup held old.reads old.may_leave → IsFirst setup held first → Begins setup old mid s w
+pub begins_there : (setup : SetupFields) (held : Option (List ℕ)) (first w : World) (old mid : DeskState) (s : ShelfState) (file : List ℕ)
+    → old.reads ≡ Some file → HoldsState setup held file → IsFirst setup held first → Begins setup old mid s w
     → (first ≡ w) × IsSomeAnd mid.reads (HoldsState setup held)
-begins_there setup held first w old mid s disk is b =
-    let read = at_file old.reads (HoldsState setup b.goes_on.held) disk.file disk.told b.goes_on.read in
-    let same : b.goes_on.held ≡ held = one_held setup disk.file b.goes_on.held held read disk.read in
-    let still = at_file old.reads (λ (f : List ℕ). IsSomeAnd mid.reads (HoldsState setup b.goes_on.held)) disk.file disk.told b.still in (
+begins_there setup held first w old mid s file told holds is b =
+    let read = at_file old.reads (HoldsState setup b.goes_on.held) file told b.goes_on.read in
+    let same : b.goes_on.held ≡ held = one_held setup file b.goes_on.held held read holds in
+    let still = at_file old.reads (λ (f : List ℕ). IsSomeAnd mid.reads (HoldsState setup b.goes_on.held)) file told b.still in (
       one_first setup held first w is (subst (λ (h : Option (List ℕ)). IsFirst setup h w) same b.goes_on.is_first),
       subst (λ (h : Option (List ℕ)). IsSomeAnd mid.reads (HoldsState setup h)) same still,
     )
+
+-- ---- the end
+
+-- the file that all checkpoints were appended to, once the report was told
+pub is_last : (owner : Owner) (first : World) (quanta : List ℕ) {T E : Type 0} {result : Result T E} {old mid : DeskState} {s : ShelfState}
+    {w : World} (new : DeskState) (report : List ℕ) → HasHeld owner first quanta old mid (length quanta) s w → Tells mid new report result
+    → IfSome old.reads (λ file. IsLast owner (SaysSame owner file) first quanta new)
+is_last owner first quanta {old = old} {mid = mid} new report so_far tells =
+    each_file old.reads (λ (file : List ℕ). IsSomeAnd mid.reads (HoldsAfter owner (SaysSame owner file) first quanta (length quanta)))
+    (λ (file : List ℕ). IsLast owner (SaysSame owner file) first quanta new)
+    (λ file is holds.
+    let there = told_now mid.reads (HoldsAfter owner (SaysSame owner file) first quanta (length quanta)) holds in
+    let durable = at_file mid.reads (λ (f : List ℕ). (i : List ℕ) → mid.may_leave i → i ≡ f) there.0 there.1 so_far.attached.settled.durable in
+    record {
+      file = there.0;
+      told = tells.untouched.reads ∙ there.1;
+      only = λ image left. durable image ((tells.untouched.crash image).0 left);
+      holds = there.2;
+    }) so_far.holds
 
 -- ---- the beginning
 

@@ -1,12 +1,13 @@
 -- What the file of a run that keeps checkpoints holds, what is told, and why a file is refused.
 use Rattle.std.specs.Prelude.{All, IfSome, List, None, Option, Some, Err, Ok, length, slice_get, suc, take, zero, ℕ}
-use Rattle.std.specs.Prelude.{◌++◌, ◌-◌, ◌<◌, ◌^◌, ◌≡◌, ◌≤◌, ◌⊎◌}
-use Rattle.desk_io.specs.Desk.{Appended}
+use Rattle.std.specs.Prelude.{◌<◌, ◌^◌, ◌≡◌, ◌≤◌, ◌⊎◌}
+use Rattle.desk_io.specs.Desk.{DeskState, Elapses, WithText}
+use Rattle.desk_io.specs.Told.{LinesFollow}
 use Rattle.soup_checkpoint.specs.declared.faults.HoldFault.{HoldFault}
 use Rattle.soup_checkpoint.specs.declared.faults.HoldFault.TheVariants as fault
 use Rattle.soup_checkpoint.specs.declared.owner.Owner.{Owner}
-use Rattle.soup_checkpoint.specs.Hold.{HoldSays}
-use Rattle.soup_checkpoint.specs.Shelf.{Holds}
+use Rattle.soup_checkpoint.specs.Hold.{HoldSays, owner_of}
+use Rattle.soup_checkpoint.specs.Shelf.{Holds, SaysAsBefore}
 use Rattle.soup_hold.specs.Text.{held_lines, held_quanta, hold_text, world_at}
 use Rattle.tierra_model.specs.Serial.{start}
 use Rattle.tierra_model.specs.Setups.{SetupFields}
@@ -40,14 +41,9 @@ pub record IsHoldText (setup : SetupFields) (n every : ℕ) (file : Option (List
   pub not_beyond : first.quanta ≤ n
   pub text_is : text ≡ hold_text first n every
 
--- the text grew by the first bytes of the piece, but not by all of them
-abbrev pub AppendedLess : Option (List ℕ) → List ℕ → Option (List ℕ) → Type 0
-AppendedLess before piece now = (k : ℕ) × (k < length piece) × Appended before (take k piece) now
-
--- nothing was told, or the first bytes of the run's text, but not all of them
-abbrev pub IsCutShort : SetupFields → ℕ → ℕ → Option (List ℕ) → Option (List ℕ) → Option (List ℕ) → Type 0
-IsCutShort setup n every file before now =
-    (now ≡ before) ⊎ ((text : List ℕ) × IsHoldText setup n every file text × AppendedLess before text now)
+-- P holds of a text of the run
+abbrev pub ForHoldText : SetupFields → ℕ → ℕ → Option (List ℕ) → (List ℕ → Type 0) → Type 0
+ForHoldText setup n every file P = (text : List ℕ) × IsHoldText setup n every file text × P text
 
 -- ---- why a file is refused
 
@@ -92,13 +88,6 @@ pub record CanHold (setup : SetupFields) (n every : ℕ) (file : Option (List �
 
 -- ---- the moments of a run
 
--- the file that a read gives and every image that a crash may leave hold the state held, or none if held is None
-pub record DiskHolds (setup : SetupFields) (held reads : Option (List ℕ)) (may_leave : List ℕ → Type 0) : Type 0 where
-  pub file : List ℕ
-  pub told : reads ≡ Some file
-  pub read : HoldsState setup held file
-  pub left : (image : List ℕ) → may_leave image → HoldsState setup held image
-
 -- the image holds the state of the world
 abbrev pub HoldsWorld : Owner → World → List ℕ → Type 0
 HoldsWorld owner w image = Holds owner (Some (state_bytes w)) image × AreBytesOf owner.settings (state_bytes w) w
@@ -109,23 +98,39 @@ HoldsAfter owner AsAtStart first quanta zero image = AsAtStart image
 HoldsAfter owner AsAtStart first quanta (suc j) image =
     (q : ℕ) × (slice_get quanta j ≡ Some q) × HoldsWorld owner (world_at first q) image
 
--- the text told by now is the text told before, and then this piece
-abbrev pub IsToldAfter : Option (List ℕ) → List ℕ → List ℕ → Type 0
-IsToldAfter before piece text = (was : List ℕ) × (before ≡ Some was) × (text ≡ was ++ piece)
+-- At a moment of a run that tells the whole text: the image holds the world after the last of the first quanta, and
+-- their lines follow.
+abbrev pub IsHolding : Owner → (List ℕ → Type 0) → World → List ℕ → List ℕ → Option (List ℕ) → List ℕ → List ℕ → Type 0
+IsHolding owner AsAtStart first quanta =
+    LinesFollow (HoldsAfter owner AsAtStart first quanta) (length quanta) (λ j. held_lines (take j quanta))
 
--- the text begins with this piece
-abbrev pub BeginsWithText : List ℕ → List ℕ → Type 0
-BeginsWithText piece text = (rest : List ℕ) × (text ≡ piece ++ rest)
+-- The image says what the file might have said at the start and nothing was told since, or the run is not over and
+-- IsHolding holds.
+abbrev pub IsHoldingOn : SetupFields → Option (List ℕ) → World → ℕ → ℕ → (List ℕ → Type 0) → List ℕ → Option (List ℕ)
+    → List ℕ → List ℕ → Type 0
+IsHoldingOn setup held first n every may_leave file before image text =
+    WithText before (SaysAsBefore (owner_of setup) may_leave file) image text
+    ⊎ ((first.quanta ≤ n) × IsHolding (owner_of setup) (HoldsState setup held) first (held_quanta every first.quanta n)
+    (hold_text first n every) before image text)
 
--- At a moment of a run: the image holds the world after the last of the first j quanta. All lines before the line of
--- that quantum were told, and none after it. With j = 0 the image is as at the start, and while there are lines to
--- tell, nothing was told.
-pub record IsHolding (owner : Owner) (AsAtStart : List ℕ → Type 0) (first : World) (quanta : List ℕ)
-    (before : Option (List ℕ)) (image text : List ℕ) : Type 0 where
-  pub j : ℕ
-  pub piece : List ℕ
-  pub inside : j ≤ length quanta
-  pub holds : HoldsAfter owner AsAtStart first quanta j image
-  pub told : IsToldAfter before piece text
-  pub kept_up : BeginsWithText (held_lines (take (j - 1) quanta)) piece
-  pub covered : j < length quanta → length piece ≤ length (held_lines (take j quanta))
+-- Each moment since the first state is one of these two, where the file's contents were known then, and it held this
+-- state or none.
+abbrev pub HoldsOn : SetupFields → ℕ → ℕ → DeskState → DeskState → Type 0
+HoldsOn setup n every old new = IfSome old.reads (λ file. (held : Option (List ℕ)) (first : World)
+    → HoldsState setup held file → IsFirst setup held first
+    → Elapses old new (IsHoldingOn setup held first n every old.may_leave file old.told))
+
+-- What a read gives and whatever a crash may leave is one file, which holds the world after the last of the quanta; if
+-- there are none, it is as at the start.
+pub record IsLast (owner : Owner) (AsAtStart : List ℕ → Type 0) (first : World) (quanta : List ℕ)
+    (now : DeskState) : Type 0 where
+  pub file : List ℕ
+  pub told : now.reads ≡ Some file
+  pub only : (image : List ℕ) → now.may_leave image → image ≡ file
+  pub holds : HoldsAfter owner AsAtStart first quanta (length quanta) file
+
+-- the file of a run that is done holds its last checkpoint, or what it held before if the run came to none
+pub record EndsWithLast (setup : SetupFields) (n every : ℕ) (file : List ℕ) (now : DeskState) : Type 0 where
+  pub first : World
+  pub goes_on : GoesOnFrom setup (Some file) first
+  pub last : IsLast (owner_of setup) (HoldsState setup goes_on.held) first (held_quanta every first.quanta n) now

@@ -9,7 +9,8 @@ use Rattle.world_state.specs.StateBytes.{state_bytes}
 use Rattle.soup_hold.specs.declared.stop.HoldStop.{HoldStop}
 use Rattle.soup_checkpoint.specs.declared.faults.HoldFault.{HoldFault}
 use Rattle.soup_checkpoint.specs.declared.faults.HoldFault.TheVariants as fault
-use Rattle.soup_hold.specs.Holding.{GoesOnFrom, HoldsAfter, HoldsState, HoldsWorld, IsHolding, IsSmall, IsToldAfter}
+use Rattle.desk_io.specs.Told.{IsToldAfter}
+use Rattle.soup_hold.specs.Holding.{GoesOnFrom, HoldsAfter, HoldsState, HoldsWorld, IsHolding, IsSmall}
 use Rattle.soup_hold.specs.Stops.{CountsStop, IfRefused}
 use Rattle.soup_hold.specs.Text.{held_lines, world_at}
 use Rattle.tierra_model.specs.Setups.{SetupFields}
@@ -52,7 +53,8 @@ pub record HasHeld (owner : Owner) (first : World) (quanta : List ℕ) (old now 
   pub small : All (λ q. IsSmall (world_at first q)) (take j quanta)
   pub told : Appended old.told (held_lines (take j quanta)) now.told
   pub holds : IfSome old.reads (λ file. IsSomeAnd now.reads (HoldsAfter owner (SaysSame owner file) first quanta j))
-  pub time : IfSome old.reads (λ file. Elapses old now (IsHolding owner (SaysSame owner file) first quanta old.told))
+  pub time : IfSome old.reads (λ file. Elapses old now
+      (IsHolding owner (SaysSame owner file) first quanta (held_lines quanta) old.told))
 
 -- the state of one of the quanta is the first that is too large
 abbrev pub IsLargeFirst : World → List ℕ → HoldFault → Type 0
@@ -65,7 +67,8 @@ pub record HasStopped (owner : Owner) (first : World) (quanta : List ℕ) (old n
     (cause : HoldStop) : Type 0 where
   pub large : IfRefused cause (IsLargeFirst first quanta)
   pub partly : AppendedSome old.told (held_lines quanta) now.told
-  pub time : IfSome old.reads (λ file. Elapses old now (IsHolding owner (SaysSame owner file) first quanta old.told))
+  pub time : IfSome old.reads (λ file. Elapses old now
+      (IsHolding owner (SaysSame owner file) first quanta (held_lines quanta) old.told))
   pub counts : CountsStop cause now
 
 -- ---- the start

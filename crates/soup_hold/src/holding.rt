@@ -1,7 +1,8 @@
 //! A run that goes on from a file, to its last quantum.
 
-ghost use Rattle.std.specs.Prelude.{◌≡◌, ◌-◌, ◌<◌, ◌≤◌, ℕ, All, IfErr, IfOk, IfSome, List, OnOk, Option, Some, length};
+ghost use Rattle.std.specs.Prelude.{◌≡◌, ◌-◌, ◌<◌, ◌≤◌, All, IfErr, IfOk, IfSome, OnOk, Some, length};
 ghost use Rattle.desk_io.specs.Desk.{Elapses, HasNoFault, TellsText, UsesDisk};
+ghost use Rattle.desk_io.specs.Told.{AppendedLess};
 ghost use Rattle.file_journal.specs.Files.{IsFresh};
 ghost use Rattle.file_journal.specs.Steps.{IfTold, IsUnwritten};
 ghost use Rattle.report_text.specs.Report.{report};
@@ -10,13 +11,12 @@ ghost use Rattle.soup_checkpoint.specs.declared.faults.HoldFault.{HoldFault};
 ghost use Rattle.soup_checkpoint.specs.Hold.{owner_of, title};
 ghost use Rattle.soup_checkpoint.specs.Shelf.{IsAttached, IsOfFile, Refuses, SaysAsBefore, SaysSame, ShelfState};
 ghost use Rattle.soup_hold.specs.Ending.{IsDone, IsStopped};
-ghost use Rattle.soup_hold.specs.Holding.{AppendedLess, DiskHolds, HoldsState, IsEarly, IsFirst, IsHolding, IsSmall, RefusesHold};
+ghost use Rattle.soup_hold.specs.Holding.{HoldsOn, IsEarly, IsHolding, IsLast, IsSmall, RefusesHold};
 ghost use Rattle.soup_hold.specs.Steps.{Begins, HasHeld, HasStopped, IsLargeFirst};
 ghost use Rattle.soup_hold.specs.Stops.{CountsStops, IfRefused, UnlessTelling};
 ghost use Rattle.soup_hold.specs.Text.{held_quanta, hold_text, world_at};
 ghost use Rattle.tierra_model.specs.declared.limits.TheConstants.{MOST_QUANTA};
 ghost use Rattle.tierra_model.specs.Setups.{IsSetup};
-ghost use Rattle.tierra_model.specs.World.{World as WorldFields};
 
 use crate::next::hold_next;
 use crate::stop::HoldStop;
@@ -98,7 +98,10 @@ fn hold_from<D: Desk>(
         (IsLargeFirst world.world (held_quanta every world.world.quanta quanta))) }
     ensures moments { IfSome (D.state desk.old).reads (λ file. Elapses (D.state desk.old) (D.state desk.new)
         (IsHolding shelf.owner (SaysSame shelf.owner file) world.world (held_quanta every world.world.quanta quanta)
-        (D.state desk.old).told)) }
+        (hold_text world.world quanta every) (D.state desk.old).told)) }
+    ensures last { OnOk result (IfSome (D.state desk.old).reads (λ file.
+        IsLast shelf.owner (SaysSame shelf.owner file) world.world (held_quanta every world.world.quanta quanta)
+        (D.state desk.new))) }
     ensures counts { CountsStops result (D.state desk.new) }
 {
     let world = hold_each(alloc, desk, shelf, world, quanta, every)?;
@@ -153,13 +156,9 @@ pub fn hold<D: Desk>(
         RefusesHold setup.now quanta every (Some file) f
         → Elapses (D.state desk.old) (D.state desk.new) (λ image text. (D.state desk.old).may_leave image)) }
 
-    // If, at the start, what a read gives and every image that a crash may leave hold the same, then at each moment the
-    // image holds that, or a world appended since: no earlier than any whose line was told, and at most one later.
-    ensures moments { (held : Option (List ℕ)) (first : WorldFields)
-        → DiskHolds setup.now held (D.state desk.old).reads (D.state desk.old).may_leave → IsFirst setup.now held first
-        → Elapses (D.state desk.old) (D.state desk.new)
-        (IsHolding (owner_of setup.now) (HoldsState setup.now held) first
-        (held_quanta every first.quanta quanta) (D.state desk.old).told) }
+    // At each moment the image says what the file might have said at the start, and nothing was told since; or it holds
+    // what a read gave then, or a world appended since: no earlier than any whose line was told, and at most one later.
+    ensures moments { HoldsOn setup.now quanta every (D.state desk.old) (D.state desk.new) }
     ensures counts { CountsStops result (D.state desk.new) }
 
     // What the type of a setup keeps.

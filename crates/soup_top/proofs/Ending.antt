@@ -7,7 +7,8 @@ use Rattle.desk_io.specs.Desk.{Appended, AppendedSome, DeskState, Elapses, Tells
 use Rattle.bank_journal.specs.Steps.{IsUnwritten}
 use Rattle.soup_checkpoint.specs.declared.faults.HoldFault.{HoldFault}
 use Rattle.soup_hold.specs.Ending.{IsStopped}
-use Rattle.soup_hold.specs.Holding.{AppendedLess, IsEarly, IsHoldText, RefusesHold}
+use Rattle.desk_io.specs.Told.{AppendedLess}
+use Rattle.soup_hold.specs.Holding.{IsEarly, IsHoldText, RefusesHold}
 use Rattle.soup_hold.specs.declared.stop.HoldStop.{HoldStop}
 use Rattle.soup_hold.specs.declared.stop.HoldStop.TheVariants as hold
 use Rattle.tierra_model.specs.Setups.{SetupFields}
@@ -84,7 +85,7 @@ module _ (setup : SetupFields) (n w : ℕ) (old new : DeskState) where
 
   pub run_done : (r : Result (Unit {0}) RunStop) → TellsText old new (run_text setup n) r
       → OnOk r (IfSome old.reads (λ file. BeginsWith setup n file new.reads new.may_leave)) → OnOk r (IsDoneFor (task.Run setup n w) old new)
-  run_done (Ok x) tells begins = record { told = (run_text setup n, refl, tells.all); begins = begins; small = tt; resumed = tt }
+  run_done (Ok x) tells begins = record { told = (run_text setup n, refl, tells.all); begins = begins; small = tt; resumed = tt; last = tt }
   run_done (Err s) tells begins = tt
 
 -- ---- a run with checkpoints
@@ -105,16 +106,10 @@ module _ (setup : SetupFields) (n every : ℕ) (old new : DeskState) where
         (λ file is q. q (subst (λ (o : Option (List ℕ)). RefusesHold setup n every o f) is reason)) quiet;
   }
 
-  hold_partly : (new.told ≡ old.told)
-      ⊎ ((text : List ℕ) × (k : ℕ) × IsHoldText setup n every old.reads text × Appended old.told (take k text) new.told)
-      → (new.told ≡ old.told) ⊎ ForTextOf (task.Hold setup n every) old.reads (λ text. AppendedSome old.told text new.told)
-  hold_partly (inl same) = inl same
-  hold_partly (inr part) = inr (part.0, part.2, (part.1, part.3))
-
   pub hold_stops : (s : HoldStop) → IsStopped setup n every old new s
       → ((f : HoldFault) → IsEarly f → IfSome old.reads (QuietAt f)) → IsStoppedFor (task.Hold setup n every) old new (stop_by s)
   hold_stops (hold.Refused f) x quiet = record {
-    partly = hold_partly x.partly;
+    partly = x.partly;
     unfinished = x.unfinished;
     refused = tt;
     hold_refused = record {
@@ -122,6 +117,6 @@ module _ (setup : SetupFields) (n every : ℕ) (old new : DeskState) where
       early = λ early. left_alone f early (x.refused.untold early) (x.refused.unwritten early) x.refused.reason (quiet f early);
     };
   }
-  hold_stops hold.DiskFault x quiet = record { partly = hold_partly x.partly; unfinished = x.unfinished; refused = tt; hold_refused = tt }
-  hold_stops hold.TellFault x quiet = record { partly = hold_partly x.partly; unfinished = x.unfinished; refused = tt; hold_refused = tt }
-  hold_stops hold.OutOfMemory x quiet = record { partly = hold_partly x.partly; unfinished = x.unfinished; refused = tt; hold_refused = tt }
+  hold_stops hold.DiskFault x quiet = record { partly = x.partly; unfinished = x.unfinished; refused = tt; hold_refused = tt }
+  hold_stops hold.TellFault x quiet = record { partly = x.partly; unfinished = x.unfinished; refused = tt; hold_refused = tt }
+  hold_stops hold.OutOfMemory x quiet = record { partly = x.partly; unfinished = x.unfinished; refused = tt; hold_refused = tt }

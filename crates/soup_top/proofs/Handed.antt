@@ -26,7 +26,7 @@ use Rattle.soup_top.specs.Sources.{run_groups}
 use Rattle.soup_top.specs.Stops.{CountsStop, CountsStops, IfDiffers}
 use Rattle.soup_top.proofs.RunLines.{lines_so_far}
 use Rattle.soup_top.proofs.SoFar.{all_fit, all_lines_told, all_taken, differs_first, has_as_many, keeps_time, next_partly_told, next_taken, none_differs_yet}
-use Rattle.soup_hold.proofs.Telling.{as_told, nothing_appended}
+use Rattle.desk_io.proofs.Telling.{as_told, nothing_appended}
 
 -- ---- how many groups a run has
 

@@ -3,8 +3,10 @@ use Rattle.std.proofs.Common.{◌≡◌, ◌⊎◌, sym, subst, inl, inr, ℕ, �
 use Rattle.bank_journal.proofs.Times.{each_file, for_file}
 use Rattle.bank_recover.specs.declared.faults.BankFault.{BankFault}
 use Rattle.desk_io.specs.Desk.{Appended, DeskState, Elapses, IsLawful, IsNow, Untouched}
+use Rattle.desk_io.proofs.Time.{Elapses-weaker}
 use Rattle.soup_checkpoint.specs.declared.faults.HoldFault.{HoldFault}
-use Rattle.soup_hold.specs.Holding.{AppendedLess, CanHold, IsEarly, RefusesHold}
+use Rattle.desk_io.specs.Told.{AppendedLess}
+use Rattle.soup_hold.specs.Holding.{CanHold, IsEarly, RefusesHold}
 use Rattle.tierra_model.specs.Setups.{SetupFields}
 use Rattle.soup_top.specs.declared.asking.Task.{Task}
 use Rattle.soup_top.specs.declared.asking.Task.TheVariants as task
@@ -13,20 +15,19 @@ use Rattle.soup_top.specs.declared.status.Status.TheVariants as status
 use Rattle.soup_top.specs.declared.stop.RunStop.{RunStop}
 use Rattle.soup_top.specs.declared.stop.RunStop.TheVariants as stop
 use Rattle.soup_top.specs.Answers.{AskingCause, Cause, GivesNothingToWrite, OnBankRefused, OnDone, OnHoldRefused, OnStopped}
-use Rattle.soup_top.specs.Calls.{Call, ComesToSameEnd, HasRightText, IsQuiet, AtEachMoment, KeepsLinesUp, LeavesTrueGenebank, OfFile, OfHolds, OfRuns}
+use Rattle.soup_top.specs.Calls.{Call, ComesToSameEnd, HasRightText, IsQuiet, IsTellingAsked, AtEachMoment, KeepsLinesUp, LeavesTrueGenebank, OfFile, OfHolds, OfRuns}
 use Rattle.soup_top.specs.Calls.{ReadsTheSame, HasItsCause, SparesRefusedFile, TellsAsked, TellsNothing, TellsNothingElse, TellsWhatIsAsked}
-use Rattle.soup_top.specs.Checkpoints.{HasTrueMoments, IsLeftAlone, IsTrueHold, Resumes}
+use Rattle.soup_top.specs.Checkpoints.{HasTrueMoments, HoldsSerial, IsHeldOn, IsLeftAlone, LeavesLast, Resumes}
 use Rattle.soup_top.specs.Ending.{HasMomentsFor, IsDoneFor, IsHoldRefusedFor, IsRefusedFor, IsStoppedFor}
 use Rattle.soup_top.specs.Genebank.{BeginsWith, DiskIsOfHistory, IsTrueMoment, KeepsUp, RefusesRun}
 use Rattle.soup_top.specs.Keeping.{IsToldAtRefusal}
 use Rattle.soup_top.specs.Sources.{run_groups, run_text}
 use Rattle.soup_top.specs.Statuses.{status_of}
 use Rattle.soup_top.specs.Stops.{CountsStop, IfHoldRefused, IfRefused}
-use Rattle.soup_top.specs.Tasks.{ForTextOf, IsTaskOf, IsToldWhenRefused, OfRun, OfText, UnlessWriting}
+use Rattle.soup_top.specs.Tasks.{ForTextOf, IsTaskOf, IsTellingFor, IsToldWhenRefused, OfRun, OfText, UnlessWriting}
 use Rattle.soup_top.proofs.Causes.{asking-has-cause, complete-by, stop-has-cause}
 use Rattle.soup_top.proofs.Crashes.{all_are_true, all_in_step, now_is_true}
 use Rattle.soup_top.proofs.OneTask.{of-hold-asked, of-run-asked, run-asked, unless-writing-asked}
-use Rattle.soup_top.proofs.Resuming.{untold_is_held}
 use Rattle.soup_top.proofs.ToldTexts.{all-is-some, asked-text, asked-text-or}
 use Rattle.soup_top.proofs.Unfinished.{by_status, still_unless, where_stopped}
 
@@ -80,6 +81,7 @@ pub record HasMoments (c : Call) : Type 0 where
   pub checkpoints : OfHolds c (λ setup n every. HasTrueMoments setup n every c.desk c.desk_after)
   pub quiet_hold : OfHolds c (λ setup n every. (f : HoldFault) → IsEarly f → OfFile c (λ file.
       RefusesHold setup n every (Some file) f → Elapses c.desk c.desk_after (λ image text. c.desk.may_leave image)))
+  pub telling : GivesNothingToWrite c.words c.source.left → Elapses c.desk c.desk_after (IsTellingAsked c)
 
 -- What is so where a genebank is refused.
 pub record IsSpared (c : Call) (f : BankFault) : Type 0 where
@@ -117,15 +119,26 @@ module _ (c : Call) (law : IsLawful c.desk) (past : HasMoments c) where
   }
 
   pub comes_to_same_end : OnDone c.status (OfHolds c (λ setup n every. Resumes setup n every c.desk c.desk_after))
+      → OnDone c.status (OfHolds c (λ setup n every. LeavesLast setup n every c.desk c.desk_after))
       → OnDone c.status (OfHolds c (λ setup n every. OfFile c (λ file. CanHold setup n every (Some file)))) → ComesToSameEnd c
-  comes_to_same_end resumed small = record {
+  comes_to_same_end resumed last small = record {
     resumed = resumed;
+    last = last;
     small = small;
-    checkpoints = λ setup n every asked start disk.
-        at_each (IsTrueHold setup n every start c.desk.told)
-        (λ image text now. untold_is_held setup n every start c.desk.told image text (disk.left image now.0) now.1)
-        (past.checkpoints setup n every asked start disk);
+    checkpoints = λ setup n every asked.
+        each_file c.desk.reads
+        (λ file. (start : Option ℕ) → HoldsSerial setup start file
+        → Elapses c.desk c.desk_after (IsHeldOn setup n every start c.desk.may_leave file c.desk.told))
+        (λ file. (start : Option ℕ) → HoldsSerial setup start file → AtEachMoment c (IsHeldOn setup n every start c.desk.may_leave file c.desk.told))
+        (λ file is time start read.
+        at_each (IsHeldOn setup n every start c.desk.may_leave file c.desk.told)
+        (λ image text now. inl ((image, (inl now.0, λ r. (λ says. says, λ says. says))), now.1)) (time start read))
+        (past.checkpoints setup n every asked);
   }
+
+  -- each moment of a call that writes nothing
+  pub telling_at_each : GivesNothingToWrite c.words c.source.left → AtEachMoment c (IsTellingAsked c)
+  telling_at_each nothing = at_each (IsTellingAsked c) (λ image text now. (now.0, inl now.1)) (past.telling nothing)
 
   pub spares_refused_file : OnBankRefused c.status (IsSpared c) → OnHoldRefused c.status (IsLeftAlone c.desk c.desk_after)
       → (GivesNothingToWrite c.words c.source.left → Untouched c.desk c.desk_after) → SparesRefusedFile c
@@ -168,6 +181,9 @@ module _ (c : Call) (t : Task) (is : IsTaskOf c.words c.source.left t) where
     quiet_hold = λ setup n every asked. of-hold-asked c.words c.source.left t setup n every
         (λ (s : SetupFields) (m k : ℕ). (f : HoldFault) → IsEarly f → OfFile c (λ file. RefusesHold s m k (Some file) f
         → Elapses c.desk c.desk_after (λ image text. c.desk.may_leave image))) is asked had.quiet_hold;
+    telling = λ nothing. Elapses-weaker
+        (λ image text m. (m.0, asked-text-or c.words c.source.left c.desk.reads _ _ t is m.1))
+        (unless-writing-asked c.words c.source.left t (Elapses c.desk c.desk_after (IsTellingFor t c.desk)) is nothing had.telling);
   }
 
   -- only a task that writes does not leave the disk alone
@@ -195,6 +211,10 @@ module _ (c : Call) (t : Task) (is : IsTaskOf c.words c.source.left t) where
   pub done_resumes : IsDoneFor t c.desk c.desk_after → OfHolds c (λ setup n every. Resumes setup n every c.desk c.desk_after)
   done_resumes done setup n every asked = of-hold-asked c.words c.source.left t setup n every
       (λ (s : SetupFields) (m k : ℕ). Resumes s m k c.desk c.desk_after) is asked done.resumed
+
+  pub done_last : IsDoneFor t c.desk c.desk_after → OfHolds c (λ setup n every. LeavesLast setup n every c.desk c.desk_after)
+  done_last done setup n every asked = of-hold-asked c.words c.source.left t setup n every
+      (λ (s : SetupFields) (m k : ℕ). LeavesLast s m k c.desk c.desk_after) is asked done.last
 
   pub done_small : IsDoneFor t c.desk c.desk_after
       → OfHolds c (λ setup n every. OfFile c (λ file. CanHold setup n every (Some file)))
@@ -224,7 +244,8 @@ module _ (c : Call) (none : (P : List ℕ → List ℕ → Type 0) → Elapses c
     crash = λ setup n asked disk. none (IsTrueMoment setup n c.desk.told);
     kept_up = λ setup n asked. for_file c.desk.reads _ (λ file is had has. none _);
     quiet_run = λ setup n asked. for_file c.desk.reads _ (λ file is f r. none _);
-    checkpoints = λ setup n every asked start disk. none _;
+    checkpoints = λ setup n every asked. for_file c.desk.reads _ (λ file is start read. none _);
+    telling = λ nothing. none _;
     quiet_hold = λ setup n every asked f early. for_file c.desk.reads _ (λ file is r. none _);
   }
 
@@ -263,7 +284,8 @@ done-has-right-text {c} t ok is done = record {
 pub done-comes-to-same-end : {c : Call} (t : Task) → c.status ≡ status.Done → IsTaskOf c.words c.source.left t
     → IsDoneFor t c.desk c.desk_after → IsLawful c.desk → HasMomentsFor t c.desk c.desk_after → ComesToSameEnd c
 done-comes-to-same-end {c} t ok is done law had = comes_to_same_end c law (task_moments c t is had)
-    (at_done c.status ok _ (done_resumes c t is done)) (at_done c.status ok _ (done_small c t is done))
+    (at_done c.status ok _ (done_resumes c t is done)) (at_done c.status ok _ (done_last c t is done))
+    (at_done c.status ok _ (done_small c t is done))
 
 pub done-tells-what-is-asked : {c : Call} (t : Task) → c.status ≡ status.Done → IsTaskOf c.words c.source.left t
     → IsDoneFor t c.desk c.desk_after → TellsWhatIsAsked c
@@ -279,11 +301,12 @@ done-has-its-cause {c} ok = record {
 }
 
 pub done-tells-nothing-else : {c : Call} (t : Task) → c.status ≡ status.Done → IsTaskOf c.words c.source.left t
-    → IsDoneFor t c.desk c.desk_after → TellsNothingElse c
-done-tells-nothing-else {c} t ok is done = record {
+    → IsDoneFor t c.desk c.desk_after → IsLawful c.desk → HasMomentsFor t c.desk c.desk_after → TellsNothingElse c
+done-tells-nothing-else {c} t ok is done law had = record {
   prefix = inr (asked-text c.words c.source.left c.desk.reads _ t is
       (done.told.0, done.told.1, all-is-some c.desk.told c.desk_after.told done.told.0 done.told.2));
   unfinished = done_unstopped c.status ok _;
+  telling = telling_at_each c law (task_moments c t is had);
 }
 
 pub done-spares-refused-file : {c : Call} (t : Task) → c.status ≡ status.Done → IsTaskOf c.words c.source.left t
@@ -308,7 +331,7 @@ stop-has-right-text {c} s stops = record {
 pub stop-comes-to-same-end : {c : Call} (t : Task) (s : RunStop) → c.status ≡ status_of s → IsTaskOf c.words c.source.left t
     → IsLawful c.desk → HasMomentsFor t c.desk c.desk_after → ComesToSameEnd c
 stop-comes-to-same-end {c} t s stops is law had = comes_to_same_end c law (task_moments c t is had)
-    (stop_undone c.status s stops _) (stop_undone c.status s stops _)
+    (stop_undone c.status s stops _) (stop_undone c.status s stops _) (stop_undone c.status s stops _)
 
 pub stop-tells-what-is-asked : {c : Call} (s : RunStop) → c.status ≡ status_of s → TellsWhatIsAsked c
 stop-tells-what-is-asked {c} s stops = record { done = stop_undone c.status s stops _ }
@@ -321,11 +344,12 @@ stop-has-its-cause {c} t s stops is disk stopped counts =
     (stop-has-cause c.words c.source.left (0 < c.source_after.faults) t c.desk c.desk_after s is disk stopped counts))
 
 pub stop-tells-nothing-else : {c : Call} (t : Task) (s : RunStop) → c.status ≡ status_of s → IsTaskOf c.words c.source.left t
-    → IsStoppedFor t c.desk c.desk_after s → TellsNothingElse c
-stop-tells-nothing-else {c} t s stops is stopped = record {
+    → IsStoppedFor t c.desk c.desk_after s → IsLawful c.desk → HasMomentsFor t c.desk c.desk_after → TellsNothingElse c
+stop-tells-nothing-else {c} t s stops is stopped law had = record {
   prefix = asked-text-or c.words c.source.left c.desk.reads _ _ t is stopped.partly;
   unfinished = subst (λ (x : Status). OnStopped x (TellsNothing c ⊎ TellsAsked c AppendedLess)) (sym stops)
       (by_status s _ (still_unless s _ _ (asked-text-or c.words c.source.left c.desk.reads _ _ t is) stopped.unfinished));
+  telling = telling_at_each c law (task_moments c t is had);
 }
 
 pub stop-spares-refused-file : {c : Call} (t : Task) (s : RunStop) → c.status ≡ status_of s → IsTaskOf c.words c.source.left t
@@ -353,6 +377,7 @@ asking-has-right-text {c} cause = record { told = asking_undone c cause _; begin
 
 pub asking-comes-to-same-end : {c : Call} → IsAsking c → IsLawful c.desk → IsUncalled c → ComesToSameEnd c
 asking-comes-to-same-end {c} cause law none = comes_to_same_end c law (no_moments c none) (asking_undone c cause _) (asking_undone c cause _)
+    (asking_undone c cause _)
 
 pub asking-tells-what-is-asked : {c : Call} → IsAsking c → TellsWhatIsAsked c
 asking-tells-what-is-asked {c} cause = record { done = asking_undone c cause _ }
@@ -361,8 +386,12 @@ pub asking-has-its-cause : {c : Call} → IsAsking c → HasItsCause c
 asking-has-its-cause {c} cause = has_its_cause c (asking-has-cause c.words c.source.left c.desk.reads (0 < c.source_after.faults)
     (0 < c.desk_after.disk_faults) (0 < c.desk_after.tell_faults) c.status cause)
 
-pub asking-tells-nothing-else : {c : Call} → c.desk_after.told ≡ c.desk.told → TellsNothingElse c
-asking-tells-nothing-else {c} same = record { prefix = inl same; unfinished = where_stopped c.status _ (inl same) }
+pub asking-tells-nothing-else : {c : Call} → c.desk_after.told ≡ c.desk.told → IsLawful c.desk → IsUncalled c → TellsNothingElse c
+asking-tells-nothing-else {c} same law none = record {
+  prefix = inl same;
+  unfinished = where_stopped c.status _ (inl same);
+  telling = telling_at_each c law (no_moments c none);
+}
 
 pub asking-spares-refused-file : {c : Call} → IsAsking c → IsLawful c.desk → IsUncalled c → Untouched c.desk c.desk_after
     → SparesRefusedFile c

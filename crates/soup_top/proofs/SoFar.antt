@@ -12,14 +12,14 @@ use Rattle.bank_journal.specs.Bank.{Has}
 use Rattle.bank_journal.specs.Steps.{StaysTold}
 use Rattle.bank_journal.proofs.Times.{each_file}
 use Rattle.report_text.specs.Bank.{saved_lines}
-use Rattle.soup_hold.specs.Holding.{BeginsWithText}
+use Rattle.desk_io.specs.Told.{BeginsWithText}
 use Rattle.soup_top.specs.Genebank.{IsFirstToDiffer}
 use Rattle.soup_top.specs.Handing.{TakenSoFar}
 use Rattle.soup_top.specs.Keeping.{DiffersAt, FitsAsFar, IsKeeping, IsTaken, IsTaking, completed, group_lines, grown}
 use Rattle.soup_top.proofs.Growing.{first_is_later, first_to_differ, fits_as_far_as, grown-all, inside_had, taken_fits, taken_grown}
 use Rattle.soup_top.proofs.RunLines.{lines_and_some, lines_begin, lines_left, lines_more, lines_of_first, lines_so_far}
 use Rattle.soup_top.proofs.Taking.{times_then}
-use Rattle.soup_hold.proofs.Telling.{Appended-then, piece_begun, text_before}
+use Rattle.desk_io.proofs.Telling.{Appended-then, piece_begun, text_before}
 
 module _ {had run : List GroupFields} {k : ℕ} {groups : List GroupFields} {before mid : Option (List ℕ)}
     (so_far : TakenSoFar had run k groups before mid) where
@@ -58,10 +58,12 @@ module _ {had run : List GroupFields} {k : ℕ} {groups : List GroupFields} {bef
         let within = slice_get_within run k g at in
         record {
           k = k;
-          piece = saved_lines (take k run);
           inside = omega arith;
-          has = subst (λ gs. Has digest gs image) so_far.groups_are has;
-          fits = subst (λ gs. GroupsFit (take k gs) (take k run)) so_far.groups_are so_far.fits;
+          has = record {
+            has = subst (λ gs. Has digest gs image) so_far.groups_are has;
+            fits = subst (λ gs. GroupsFit (take k gs) (take k run)) so_far.groups_are so_far.fits;
+          };
+          piece = saved_lines (take k run);
           told = text_before before mid (saved_lines (take k run)) text so_far.told told;
           kept_up =
               subst (BeginsWithText (saved_lines (take (k - 1) run))) (append-nil (saved_lines (take k run)))
@@ -78,10 +80,12 @@ module _ {had run : List GroupFields} {k : ℕ} {groups : List GroupFields} {bef
         let back : k + 1 - 1 ≡ k = omega arith in
         record {
           k = k + 1;
-          piece = lines ++ some;
           inside = omega arith;
-          has = subst (λ gs. Has digest gs image) now_is has;
-          fits = subst (λ gs. GroupsFit (take (k + 1) gs) (take (k + 1) run)) now_is (taken_fits had run k g at groups now taken so_far.fits);
+          has = record {
+            has = subst (λ gs. Has digest gs image) now_is has;
+            fits = subst (λ gs. GroupsFit (take (k + 1) gs) (take (k + 1) run)) now_is (taken_fits had run k g at groups now taken so_far.fits);
+          };
+          piece = lines ++ some;
           told = (start.0, start.1, told.2 ∙ ap (λ t. t ++ some) start.2 ∙ append_assoc start.0 lines some);
           kept_up = subst (λ (j : ℕ). BeginsWithText (saved_lines (take j run)) (lines ++ some)) (sym back) (some, refl);
           covered = inr (omega (

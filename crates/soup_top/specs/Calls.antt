@@ -5,7 +5,8 @@ use Rattle.bank_recover.specs.declared.faults.BankFault.{BankFault}
 use Rattle.desk_io.specs.Desk.{Appended, AppendedSome, DeskState, HasNoFault, Untouched}
 use Rattle.desk_io.specs.Source.{GivesAtMost, HasNoReadFault, IsDrained, SourceState}
 use Rattle.soup_checkpoint.specs.declared.faults.HoldFault.{HoldFault}
-use Rattle.soup_hold.specs.Holding.{AppendedLess, CanHold, IsEarly, RefusesHold}
+use Rattle.desk_io.specs.Told.{AppendedLess, IsToldPart}
+use Rattle.soup_hold.specs.Holding.{CanHold, IsEarly, RefusesHold}
 use Rattle.soup_words.specs.declared.order.Order.{Order}
 use Rattle.tierra_model.specs.Groups.{GroupFields}
 use Rattle.tierra_model.specs.Setups.{SetupFields}
@@ -15,7 +16,7 @@ use Rattle.soup_top.specs.declared.status.Status.TheVariants as status
 use Rattle.soup_top.specs.Answers.{AsksForHoldOf, AsksForRunOf, Cause, DiskIsOfHold, DiskIsOfRun, EachMoment, ForText}
 use Rattle.soup_top.specs.Answers.{GivesNothingToWrite, OnBankRefused, OnDone, OnHoldRefused, OnReadWhole, OnStopped}
 use Rattle.soup_top.specs.Answers.{OnUncalled, UnlessDiskFault, UnlessReadFault, UnlessTellFault}
-use Rattle.soup_top.specs.Checkpoints.{DiskHoldsSerial, IsTrueHold, Resumes}
+use Rattle.soup_top.specs.Checkpoints.{IfHoldsSerial, IsHeldOn, LeavesLast, Resumes}
 use Rattle.soup_top.specs.Genebank.{BeginsWith, DiskIsOfHistory, HasGroups, IsInStep, IsTrueMoment, RefusesRun}
 use Rattle.soup_top.specs.Keeping.{IsToldAtRefusal}
 use Rattle.soup_top.specs.Sources.{IsTextOf, read_by, run_groups, run_text}
@@ -87,6 +88,13 @@ TellsNothing c = c.desk_after.told ≡ c.desk.told
 abbrev pub TellsAsked : Call → (Option (List ℕ) → List ℕ → Option (List ℕ) → Type 0) → Type 0
 TellsAsked c IsTold = ForText c.words c.source.left c.desk.reads (λ text. IsTold c.desk.told text c.desk_after.told)
 
+-- at a moment: the image is one that a crash might have left when the call began, and nothing was told since, or the
+-- first bytes of a text that the words ask for
+abbrev pub IsTellingAsked : Call → List ℕ → List ℕ → Type 0
+IsTellingAsked c image text = c.desk.may_leave image
+    × ((c.desk.told ≡ Some text)
+    ⊎ ForText c.words c.source.left c.desk.reads (λ whole. IsToldPart c.desk.told whole text))
+
 -- ---- what a run leaves
 
 -- A run that is done told the right text, and its genebank is on disk.
@@ -113,15 +121,17 @@ pub record KeepsLinesUp (c : Call) : Type 0 where
 
 -- A run with checkpoints comes to the end of a run that never stopped.
 pub record ComesToSameEnd (c : Call) : Type 0 where
-  -- done, from a world of the serial run, it told a line for each later checkpoint and the serial run's report
+  -- done, from a world of the serial run or from the start, it told a line for each later checkpoint and the serial run's report
   pub resumed : OnDone c.status (OfHolds c (λ setup n every. Resumes setup n every c.desk c.desk_after))
+  -- .. and the disk holds the last of them, so that a run to a later quantum goes on from there
+  pub last : OnDone c.status (OfHolds c (λ setup n every. LeavesLast setup n every c.desk c.desk_after))
   -- done, it appended no state that is too large
   pub small : OnDone c.status (OfHolds c (λ setup n every. OfFile c (λ file. CanHold setup n every (Some file))))
-  -- if the disk held a world of the serial run, or none, a crash at any moment leaves that or a later checkpoint: none
-  -- earlier than one that was told, and at most one that was not told yet
-  pub checkpoints : OfHolds c (λ setup n every. (start : Option ℕ)
-      → DiskHoldsSerial setup start c.desk.reads c.desk.may_leave
-      → AtEachMoment c (IsTrueHold setup n every start c.desk.told))
+  -- If the file held a world of the serial run, or none, a crash at any moment leaves what it might have left at the
+  -- start, and nothing was told since; or it leaves that world or a later checkpoint: none earlier than one that was
+  -- told, and at most one that was not told yet. What was told begins the run's text.
+  pub checkpoints : OfHolds c (λ setup n every. IfHoldsSerial setup c.desk (λ file start.
+      AtEachMoment c (IsHeldOn setup n every start c.desk.may_leave file c.desk.told)))
 
 -- ---- what is told
 
@@ -136,6 +146,8 @@ pub record TellsNothingElse (c : Call) : Type 0 where
   pub prefix : TellsNothing c ⊎ TellsAsked c AppendedSome
   -- at an answer but Done and a failed tell, nothing was told, or the text lacks its end
   pub unfinished : OnStopped c.status (TellsNothing c ⊎ TellsAsked c AppendedLess)
+  -- where nothing is to be written, it is so at each moment, and a crash leaves what it might have left at the start
+  pub telling : GivesNothingToWrite c.words c.source.left → AtEachMoment c (IsTellingAsked c)
 
 -- ---- what is refused
 

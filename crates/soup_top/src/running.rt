@@ -3,7 +3,8 @@
 ghost use Rattle.std.specs.Prelude.{◌≡◌, ◌<◌, ◌≤◌, ℕ, IfErr, IfOk, IfSome, OnOk, take};
 ghost use Rattle.bank_journal.specs.Bank.{Attaches, IsAttached, Refuses, SaysAsBefore};
 ghost use Rattle.bank_journal.specs.Steps.{IfTold, IsUnwritten};
-ghost use Rattle.bank_recover.specs.Bank.{IsFresh};
+ghost use Rattle.bank_recover.specs.Bank.{title};
+ghost use Rattle.file_journal.specs.Files.{IsFresh};
 ghost use Rattle.desk_io.specs.Desk.{Appended, Elapses, HasNoFault, KeepsDisk, TellsText, UsesDisk};
 ghost use Rattle.report_text.specs.Bank.{saved_lines};
 ghost use Rattle.soup_top.specs.Ending.{HasMomentsFor, IsDoneFor, IsStoppedFor};
@@ -32,9 +33,9 @@ fn attach<D: Desk>(alloc: Global, desk: &mut D, setup: &Setup) -> Result<Bank, R
     requires sound { HasNoFault (D.state desk.old) }
     ensures attached { IfOk result (Attaches (digest_of setup.now) (D.state desk.old) (D.state desk.new)) }
     ensures refused { IfErr result (OnlyRefused (Refuses (digest_of setup.now) (D.state desk.old) (D.state desk.new))) }
-    ensures kept { OnOk result (IfSome (D.state desk.old).reads (λ file. (IsFresh file → ⊥)
+    ensures kept { OnOk result (IfSome (D.state desk.old).reads (λ file. (IsFresh title file → ⊥)
         → IsUnwritten (D.state desk.old) (D.state desk.new))) }
-    ensures quiet { IfSome (D.state desk.old).reads (λ file. (IsFresh file → ⊥)
+    ensures quiet { IfSome (D.state desk.old).reads (λ file. (IsFresh title file → ⊥)
         → UsesDisk (D.state desk.old) (D.state desk.new) (D.state desk.old).may_leave) }
     ensures moments { UsesDisk (D.state desk.old) (D.state desk.new)
         (IfTold (D.state desk.old) (SaysAsBefore (digest_of setup.now) (D.state desk.old).may_leave)) }

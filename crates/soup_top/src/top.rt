@@ -1,12 +1,12 @@
 //! The call that does all that the program does.
 
 ghost use Rattle.std.specs.Prelude.{◌≡◌, IfErr, OnOk};
-ghost use Rattle.desk_io.specs.Desk.{HasNoFault, IsTellCall, KeepsDisk, Untouched};
+ghost use Rattle.desk_io.specs.Desk.{Elapses, HasNoFault, IsTellCall, KeepsDisk, Untouched};
 ghost use Rattle.desk_io.specs.Source.{HasNoReadFault};
 ghost use Rattle.soup_top.specs.Calls.{CallsNoMore, ComesToSameEnd, HasRightText, KeepsLinesUp, LeavesTrueGenebank, HasItsCause, SparesRefusedFile, TellsNothingElse, TellsWhatIsAsked, call};
 ghost use Rattle.soup_top.specs.Ending.{HasMomentsFor, IsDoneFor, IsStoppedFor};
 ghost use Rattle.soup_top.specs.Stops.{CountsStops};
-ghost use Rattle.soup_top.specs.Tasks.{IsFew, OfText, UnlessWriting};
+ghost use Rattle.soup_top.specs.Tasks.{IsFew, IsTellingFor, OfText, UnlessWriting};
 
 use crate::asking::{Task, task_asked};
 use crate::running::run;
@@ -41,6 +41,7 @@ fn tell_bank<D: Desk>(alloc: Global, desk: &mut D) -> Result<(), RunStop>
     ensures done { OnOk result (IsDoneFor Task.Bank (D.state desk.old) (D.state desk.new)) }
     ensures stopped { IfErr result (IsStoppedFor Task.Bank (D.state desk.old) (D.state desk.new)) }
     ensures kept { KeepsDisk (D.state desk.old) (D.state desk.new) }
+    ensures telling { Elapses (D.state desk.old) (D.state desk.new) (IsTellingFor Task.Bank (D.state desk.old)) }
     ensures counts { CountsStops result (D.state desk.new) }
 {
     let groups = read_bank(alloc, desk)?;
@@ -61,6 +62,8 @@ fn tell_probe<R: Threads + Sync, D: Desk>(
     ensures done { OnOk result (IsDoneFor (Task.Probe quanta workers) (D.state desk.old) (D.state desk.new)) }
     ensures stopped { IfErr result (IsStoppedFor (Task.Probe quanta workers) (D.state desk.old) (D.state desk.new)) }
     ensures kept { KeepsDisk (D.state desk.old) (D.state desk.new) }
+    ensures telling { Elapses (D.state desk.old) (D.state desk.new)
+        (IsTellingFor (Task.Probe quanta workers) (D.state desk.old)) }
     ensures counts { CountsStops result (D.state desk.new) }
 {
     let groups = read_bank(alloc, desk)?;
@@ -86,6 +89,8 @@ fn watch_and_tell<R: Threads + Wait + Sync, G: Gate + Sync, D: Desk>(
     ensures stopped { IfErr result
         (IsStoppedFor (Task.Watch setup quanta workers looks) (D.state desk.old) (D.state desk.new)) }
     ensures untouched { Untouched (D.state desk.old) (D.state desk.new) }
+    ensures telling { Elapses (D.state desk.old) (D.state desk.new)
+        (IsTellingFor (Task.Watch setup quanta workers looks) (D.state desk.old)) }
     ensures disk { (D.state desk.new).disk_faults ≡ 0 }
     ensures counts { CountsStops result (D.state desk.new) }
 {

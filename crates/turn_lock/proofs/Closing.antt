@@ -10,7 +10,7 @@ use Rattle.std.proofs.lemmas.Option.{none-some, same_Some}
 use Rattle.atomic_table.specs.Table.{Final, Seen}
 use Rattle.atomic_table.specs.Seated.{TableId}
 use Rattle.turn_lock.specs.declared.view.Summary.{Summary}
-use Rattle.turn_lock.specs.declared.view.View.{View}
+use Rattle.turn_lock.specs.declared.view.SeatView.{SeatView}
 use Rattle.turn_lock.specs.declared.view.Stage.TheVariants.{Idle}
 use Rattle.turn_lock.specs.Summary.{entries_by, HasGrown}
 use Rattle.turn_lock.specs.Seat.{SeatFields, own_of, own_total, SpeaksForAll}
@@ -35,7 +35,7 @@ count_at None k there away = away refl
 count_at (Some n) k there away = there n refl
 
 module _ {T : Type 0} (summary : T → Summary) (o : Summary) where
-  closes : (id : ℕ) (table : TableId) (v : View) (words : List ℕ) (slots : List (Option T)) → v.stage ≡ Idle
+  closes : (id : ℕ) (table : TableId) (v : SeatView) (words : List ℕ) (slots : List (Option T)) → v.stage ≡ Idle
       → SpeaksForAll (seat_of table v) → Final (Seen (KeepsRule summary o) id v) words slots
       → (x : T) × (get_elem? slots 0 ≡ some (Some x)) × IsClosedBy (seat_of table v) (summary x)
   closes id table v words slots idle all (s, seen, same_words, deep, homes) =
@@ -51,7 +51,7 @@ module _ {T : Type 0} (summary : T → Summary) (o : Summary) where
       let lt = its.0 in
       let own = mine u.place (omega arith) in
       let same : u ≡ v = same_at s.views j id u v (sym its.1 ∙ (ok.own u.place own.0 own.1).1) there at in
-      subst IsHolding (ap (λ (z : View). z.stage) same ∙ idle) holding in
+      subst IsHolding (ap (λ (z : SeatView). z.stage) same ∙ idle) holding in
       let home = r.at_home free in
       let x : T = home.0 in
       let grown : HasGrown v.opening r.counts (summary x) = subst (λ (z : Summary). HasGrown z r.counts (summary x)) (sym ok.opening) home.2 in
@@ -71,7 +71,7 @@ module _ {T : Type 0} (summary : T → Summary) (o : Summary) where
         },
       )
 
-  pub closed : (id : ℕ) (table : TableId) (v : View) (seat : SeatFields) (words : List ℕ) (slots : List (Option T)) (y : Option T)
+  pub closed : (id : ℕ) (table : TableId) (v : SeatView) (seat : SeatFields) (words : List ℕ) (slots : List (Option T)) (y : Option T)
       → v.stage ≡ Idle → seat_of table v ≡ seat → SpeaksForAll seat
       → Final (Seen (KeepsRule summary o) id v) words slots → get_elem? slots 0 ≡ some y → (x : T) × (y ≡ Some x) × IsClosedBy seat (summary x)
   closed id table v seat words slots y idle e all end there =

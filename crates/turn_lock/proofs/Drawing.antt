@@ -8,7 +8,7 @@ use lib.ListN.{get_elem?}
 use Rattle.atomic_table.specs.Table.{step, Act, keeps, stepped, carried_after, Valid, Allows}
 use Rattle.atomic_table.proofs.Lists.{set_here}
 use Rattle.turn_lock.specs.declared.view.Summary.{Summary}
-use Rattle.turn_lock.specs.declared.view.View.{View}
+use Rattle.turn_lock.specs.declared.view.SeatView.{SeatView}
 use Rattle.turn_lock.specs.declared.view.Stage.{Stage}
 use Rattle.turn_lock.specs.declared.view.Stage.TheVariants.{Idle}
 use Rattle.turn_lock.specs.View.{most_tickets, left_of, ticket_count, HasTicket, IsActive, IsHolding, after_draw}
@@ -23,14 +23,14 @@ module _ {T : Type 0} (summary : T → Summary) (o : Summary) where
   pub draws : (slots id : ℕ) (a : TableSeat T) → a.0.stage ≡ Idle → a.0.turns < most_tickets
       → Allows (KeepsRule summary o) slots id a 0 (λ n. (n + 1) % 2 ^ 64) (DrawsTicket (step slots 0 1 0 none) a)
   draws slots id a idle room s r deep at fit =
-      let v : View = a.0 in
+      let v : SeatView = a.0 in
       let active : IsActive v.stage = subst IsActive (sym idle) tt in
       let ok = r.each_seat id v at active in
       let left : v.left + v.turns + 0 ≡ most_tickets * count_by is_some v.own =
       subst (λ (stage : Stage). v.left + v.turns + ticket_count stage ≡ most_tickets * count_by is_some v.own) idle ok.left in
       let at_least = count_some v.own v.place ok.speaks.0 ok.speaks.1 in
       let t : ℕ = r.ticket in
-      let w : View = after_draw v t in
+      let w : SeatView = after_draw v t in
       let most = r.given.1 in
       let total = r.total in
       let fits : (t + 1) % 2 ^ 64 ≡ t + 1 = omega arith in
@@ -53,7 +53,7 @@ module _ {T : Type 0} (summary : T → Summary) (o : Summary) where
                   (set_here s.views id w (inside s.views id v at)),
               sym e,
             ))
-            (λ ne. subst (λ (j : ℕ). (u : View) × (get_elem? (set s.views id w) j ≡ some u) × HasTicket u.stage n) (sym (put_else r.holder t id n ne))
+            (λ ne. subst (λ (j : ℕ). (u : SeatView) × (get_elem? (set s.views id w) j ≡ some u) × HasTicket u.stage n) (sym (put_else r.holder t id n ne))
             (queue_stays s.views id (r.holder n) n v w at (λ h. absurd (subst (λ (stage : Stage). HasTicket stage n) idle h)) (r.queue n low (omega arith))));
         given = r.given;
         spoken = λ i low. speaks_stays s.views id (r.owner i) i v w at tt (λ n e. (n, e)) (r.spoken i low);
@@ -84,7 +84,7 @@ module _ {T : Type 0} (summary : T → Summary) (o : Summary) where
             });
         at_home = λ free. r.at_home (none_held s.views id v w at (λ h. absurd (subst IsHolding idle h)) free);
       } in
-      let Goal : List ℕ → Type 0 = λ ws. (w : View) × (x : Act (Option T)) × Valid s.homes a.1 x
+      let Goal : List ℕ → Type 0 = λ ws. (w : SeatView) × (x : Act (Option T)) × Valid s.homes a.1 x
       × KeepsRule summary o (stepped (record { words = ws; homes = s.homes; views = s.views }) 0 ((get_or ws 0 0 + 1) % 2 ^ 64) id a.1 w x)
       × DrawsTicket (step slots 0 1 0 none) a (get_or ws 0 0) (w, carried_after a.1 x) in
       subst Goal (sym r.words) (

@@ -3,14 +3,14 @@ use Rattle.std.proofs.Common.{◌≡◌, ℕ, zero, suc, ◌+◌, ◌≤◌, Lis
 use Rattle.std.proofs.lemmas.Option.{none-some}
 use Rattle.atomic_table.specs.Seated.{TableId}
 use Rattle.turn_lock.specs.declared.view.Summary.{Summary}
-use Rattle.turn_lock.specs.declared.view.View.{View}
+use Rattle.turn_lock.specs.declared.view.SeatView.{SeatView}
 use Rattle.turn_lock.specs.Summary.{entries_by, HasGrown}
 use Rattle.turn_lock.specs.Seat.{own_of}
 use Rattle.turn_lock.specs.View.{own_at}
 use Rattle.turn_lock.specs.Mirrors.{seat_of}
 use Rattle.turn_lock.proofs.OwnCounts.{owned_inside}
 
-module _ (x : Summary) (table : TableId) (v : View) (counts : List ℕ) (grown : HasGrown v.opening counts x) where
+module _ (x : Summary) (table : TableId) (v : SeatView) (counts : List ℕ) (grown : HasGrown v.opening counts x) where
   pub entries_own : length v.own ≡ 64 → ((i n : ℕ) → own_at v i ≡ Some n → get_or counts i 0 ≡ n)
       → (c n : ℕ) → own_of (seat_of table v) c ≡ Some n → entries_by x.entries c ≡ entries_by v.opening.entries c + n
   entries_own places alike zero n e = absurd (none-some n e)

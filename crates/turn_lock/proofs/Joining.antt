@@ -7,7 +7,7 @@ use lib.ListN.{get_elem?}
 use Rattle.atomic_table.specs.Table.{Joins}
 use Rattle.atomic_table.proofs.Lists.{set_here, set_else}
 use Rattle.turn_lock.specs.declared.view.Summary.{Summary}
-use Rattle.turn_lock.specs.declared.view.View.{View}
+use Rattle.turn_lock.specs.declared.view.SeatView.{SeatView}
 use Rattle.turn_lock.specs.declared.view.Stage.{Stage}
 use Rattle.turn_lock.specs.declared.view.Stage.TheVariants.{Idle}
 use Rattle.turn_lock.specs.View.{own_at, left_of, ticket_count, HasTicket, IsActive, IsHolding, after_join, spent}
@@ -17,18 +17,18 @@ use Rattle.turn_lock.proofs.OwnCounts.{or_from, or_left, or_same, length-merged,
 use Rattle.turn_lock.proofs.SeatsStay.{queue_stays, none_held, speaks_stays, each_seat_stays}
 
 module _ {T : Type 0} (summary : T → Summary) (o : Summary) where
-  pub joins : (id other : ℕ) (v w : View) → v.stage ≡ Idle → w.stage ≡ Idle → Joins (KeepsRule summary o) id v other w (after_join v w) spent
+  pub joins : (id other : ℕ) (v w : SeatView) → v.stage ≡ Idle → w.stage ≡ Idle → Joins (KeepsRule summary o) id v other w (after_join v w) spent
   joins id other v w idle_v idle_w s r at apart there =
-      let both : View = after_join v w in
-      let views : List View = set s.views id both in
+      let both : SeatView = after_join v w in
+      let views : List SeatView = set s.views id both in
       let at' : get_elem? s.views other ≡ some w = sym (set_else s.views id other both apart) ∙ there in
       let active_v : IsActive v.stage = subst IsActive (sym idle_v) tt in
       let a = r.each_seat id v at active_v in
       let b = r.each_seat other w at' (subst IsActive (sym idle_w) tt) in
       let owner : ℕ → ℕ = λ i. put (λ z. z) other id (r.owner i) in
       let same_length : length v.own ≡ length w.own = a.places ∙ sym b.places in
-      let P : ℕ → View → Type 0 = λ j d. j ≢ other → IsActive d.stage → SeatFits o r.ticket r.serving r.last r.counts r.holder owner j d in
-      let all_but_other : (j : ℕ) (d : View) → get_elem? views j ≡ some d → P j d = each_seat_stays P s.views id both
+      let P : ℕ → SeatView → Type 0 = λ j d. j ≢ other → IsActive d.stage → SeatFits o r.ticket r.serving r.last r.counts r.holder owner j d in
+      let all_but_other : (j : ℕ) (d : SeatView) → get_elem? views j ≡ some d → P j d = each_seat_stays P s.views id both
       (λ _ _. record {
         opening = a.opening;
         stage = a.stage;
@@ -73,7 +73,7 @@ module _ {T : Type 0} (summary : T → Summary) (o : Summary) where
             (queue_stays s.views id (r.holder k) k v both at (λ h. h) (r.queue k low high));
         given = r.given;
         spoken = λ i low. let q = r.spoken i low in dite (ℕ_discrete (r.owner i) other)
-            (λ e. let its = subst (λ (u : View). (n : ℕ) × (own_at u i ≡ Some n)) (same_at s.views (r.owner i) other q.0 w e q.1 at') q.3 in
+            (λ e. let its = subst (λ (u : SeatView). (n : ℕ) × (own_at u i ≡ Some n)) (same_at s.views (r.owner i) other q.0 w e q.1 at') q.3 in
             subst (λ (j : ℕ). Speaks (set views other spent) j i) (sym (put_here (λ z. z) other id (r.owner i) e)) (
               both,
               set_else views other id spent (λ h. apart (sym h))

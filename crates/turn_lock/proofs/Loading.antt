@@ -10,7 +10,7 @@ use Rattle.std.proofs.Math.Seq.{take-suc}
 use Rattle.std.proofs.lemmas.List.Sums.{count_by-le-length}
 use Rattle.atomic_table.specs.Table.{step, Act, keeps, stepped, carried_after, Valid, Allows}
 use Rattle.turn_lock.specs.declared.view.Summary.{Summary}
-use Rattle.turn_lock.specs.declared.view.View.{View}
+use Rattle.turn_lock.specs.declared.view.SeatView.{SeatView}
 use Rattle.turn_lock.specs.declared.view.Stage.{Stage}
 use Rattle.turn_lock.specs.declared.view.Stage.TheVariants.{Spent, Idle, Waiting, Called, Holding}
 use Rattle.turn_lock.specs.View.{ticket_count, ticket_of, counts_read, HasTicket, WaitsFor, IsActive, IsHolding, at_stage, after_call}
@@ -66,14 +66,14 @@ module _ {T : Type 0} (summary : T → Summary) (o : Summary) where
   pub loads_serving : (slots id : ℕ) (a : TableSeat T) → IsActive a.0.stage
       → Allows (KeepsRule summary o) slots id a 1 (λ n. n) (LoadsServing (step slots 1 0 0 none) a)
   loads_serving slots id a active s r deep at fit =
-      let v : View = a.0 in
+      let v : SeatView = a.0 in
       let n : ℕ = r.serving in
       let ok = r.each_seat id v at active in
       let left = ok.left in
       let few : count_by is_some v.own ≤ length v.own = count_by-le-length is_some v.own in
       let places = ok.places in
       let turns : v.turns ≤ 2 ^ 46 = omega arith in
-      let Goal : List ℕ → Type 0 = λ ws. (w : View) × (x : Act (Option T)) × Valid s.homes a.1 x
+      let Goal : List ℕ → Type 0 = λ ws. (w : SeatView) × (x : Act (Option T)) × Valid s.homes a.1 x
       × KeepsRule summary o (stepped (record { words = ws; homes = s.homes; views = s.views }) 1 (get_or ws 1 0) id a.1 w x)
       × LoadsServing (step slots 1 0 0 none) a (get_or ws 1 0) (w, carried_after a.1 x) in
       subst Goal (sym r.words) (dite (waits_or_not v.stage n)
@@ -98,7 +98,7 @@ module _ {T : Type 0} (summary : T → Summary) (o : Summary) where
       → word ≡ length counts + 2
       → Allows (KeepsRule summary o) slots id a word (λ n. n) (LoadsCount (step slots word 0 0 none) a)
   loads_count slots id t word counts a called more is s r deep at fit =
-      let v : View = a.0 in
+      let v : SeatView = a.0 in
       let active : IsActive v.stage = subst IsActive (sym called) tt in
       let ok = r.each_seat id v at active in
       let mine : StageFits r.ticket r.serving r.counts r.holder id (Called t counts) =
@@ -115,7 +115,7 @@ module _ {T : Type 0} (summary : T → Summary) (o : Summary) where
       ap (λ (l : List ℕ). l ++ n ∷ []) mine.3 ∙ (sym (take-suc r.counts i 0 (omega arith)) ∙ ap (λ (k : ℕ). take k r.counts) (sym longer)) in
       let new = restages summary o s r id v stage at active tt (ap ticket_count (sym called)) (λ k h. subst (λ (z : Stage). HasTicket z k) called h)
       (λ h. subst IsHolding called h) (mine.0, mine.1, mine.2, present) in
-      let Goal : List ℕ × ℕ → Type 0 = λ p. (w : View) × (x : Act (Option T)) × Valid s.homes a.1 x
+      let Goal : List ℕ × ℕ → Type 0 = λ p. (w : SeatView) × (x : Act (Option T)) × Valid s.homes a.1 x
       × KeepsRule summary o (stepped (record { words = p.0; homes = s.homes; views = s.views }) p.1 (get_or p.0 p.1 0) id a.1 w x)
       × LoadsCount (step slots p.1 0 0 none) a (get_or p.0 p.1 0) (w, carried_after a.1 x) in
       subst Goal (λ k. (sym r.words k, at_word k)) (

@@ -3,7 +3,7 @@ use Rattle.std.proofs.Common.{◌≡◌, ℕ, zero, suc, ◌<◌, List, [], ◌�
 use Rattle.atomic_table.specs.Table.{opening}
 use Rattle.std.proofs.lemmas.Option.{none-some, same_Some}
 use Rattle.turn_lock.specs.declared.view.Summary.{Summary}
-use Rattle.turn_lock.specs.declared.view.View.{View}
+use Rattle.turn_lock.specs.declared.view.SeatView.{SeatView}
 use Rattle.turn_lock.specs.View.{own_at, first_view}
 use Rattle.turn_lock.specs.Rule.{SeatFits, KeepsRule}
 use Rattle.turn_lock.proofs.Places.{one_at}
@@ -13,7 +13,7 @@ module _ {T : Type 0} (summary : T → Summary) where
   starts : (words : List ℕ) (x : T) → words ≡ zeros 66 → KeepsRule summary (summary x) (opening words (Some x ∷ []) (first_view (summary x)))
   starts words x e =
       let o : Summary = summary x in
-      let v : View = first_view o in
+      let v : SeatView = first_view o in
       let first_fits : SeatFits o 0 0 1 (zeros 64) (λ _. 0) (λ _. 0) 0 v = record {
         opening = refl;
         stage = tt;
@@ -40,7 +40,7 @@ module _ {T : Type 0} (summary : T → Summary) where
         unused = λ i _. zeros_zero 64 i;
         total = refl;
         each_seat = λ j d h _. let t = one_at v d j h in
-            subst (λ (z : ℕ × View). SeatFits o 0 0 1 (zeros 64) (λ _. 0) (λ _. 0) z.0 z.1) (λ k. (sym t.0 k, t.1 k)) first_fits;
+            subst (λ (z : ℕ × SeatView). SeatFits o 0 0 1 (zeros 64) (λ _. 0) (λ _. 0) z.0 z.1) (λ k. (sym t.0 k, t.1 k)) first_fits;
         at_home = λ _. (x, refl, record { setup = refl; committed = omega arith; entries = λ i _. let z = zeros_zero 64 i in omega arith });
       }
     where

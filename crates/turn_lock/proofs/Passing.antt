@@ -3,7 +3,7 @@ use Rattle.std.proofs.Common.{◌≡◌, ℕ, ◌+◌, ◌%◌, ◌^◌, List, [
 use mathlib.Core.Option.{none, some}
 use Rattle.atomic_table.specs.Table.{step, Act, gives, stepped, carried_after, homes_after, put_back, Valid, Allows}
 use Rattle.turn_lock.specs.declared.view.Summary.{Summary}
-use Rattle.turn_lock.specs.declared.view.View.{View}
+use Rattle.turn_lock.specs.declared.view.SeatView.{SeatView}
 use Rattle.turn_lock.specs.declared.view.Stage.{Stage}
 use Rattle.turn_lock.specs.declared.view.Stage.TheVariants.{Holding}
 use Rattle.turn_lock.specs.Summary.{HasGrown}
@@ -19,13 +19,13 @@ module _ {T : Type 0} (summary : T → Summary) (o : Summary) where
       → a.1 ≡ (0, Some x) ∷ [] → HasGrown a.0.opening counts (summary x)
       → Allows (KeepsRule summary o) slots id a 1 (λ n. (n + 1) % 2 ^ 64) (PassesOn (step slots 1 1 0 none) a)
   passes_on slots id t counts x a one holding carried value s r deep at fit =
-      let v : View = a.0 in
+      let v : SeatView = a.0 in
       let active : IsActive v.stage = subst IsActive (sym holding) tt in
       let ok = r.each_seat id v at active in
       let mine : StageFits r.ticket r.serving r.counts r.holder id (Holding t counts) =
       subst (StageFits r.ticket r.serving r.counts r.holder id) holding ok.stage in
       let id_is : r.holder r.serving ≡ id = ap r.holder (sym mine.0) ∙ mine.2 in
-      let w : View = after_pass v in
+      let w : SeatView = after_pass v in
       let served : ℕ = r.serving in
       let is_served = mine.0 in
       let drawn = mine.1 in
@@ -77,7 +77,7 @@ module _ {T : Type 0} (summary : T → Summary) (o : Summary) where
             });
         at_home = λ _. (x, back, home);
       } in
-      let Goal : List ℕ → Type 0 = λ ws. (w : View) × (y : Act (Option T)) × Valid s.homes a.1 y
+      let Goal : List ℕ → Type 0 = λ ws. (w : SeatView) × (y : Act (Option T)) × Valid s.homes a.1 y
       × KeepsRule summary o (stepped (record { words = ws; homes = s.homes; views = s.views }) 1 ((get_or ws 1 0 + 1) % 2 ^ 64) id a.1 w y)
       × PassesOn (step slots 1 1 0 none) a (get_or ws 1 0) (w, carried_after a.1 y) in
       subst Goal (sym r.words) (

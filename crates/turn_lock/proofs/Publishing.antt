@@ -10,7 +10,7 @@ use Rattle.std.proofs.lemmas.Option.{same_Some}
 use Rattle.atomic_table.specs.Table.{step, Act, keeps, stepped, carried_after, Valid, Allows}
 use Rattle.atomic_table.proofs.Lists.{set_here}
 use Rattle.turn_lock.specs.declared.view.Summary.{Summary}
-use Rattle.turn_lock.specs.declared.view.View.{View}
+use Rattle.turn_lock.specs.declared.view.SeatView.{SeatView}
 use Rattle.turn_lock.specs.declared.view.Stage.{Stage}
 use Rattle.turn_lock.specs.declared.view.Stage.TheVariants.{Holding}
 use Rattle.turn_lock.specs.View.{left_of, ticket_count, ticket_of, counts_read, HasTicket, IsActive, after_publish}
@@ -26,7 +26,7 @@ module _ {T : Type 0} (summary : T → Summary) (o : Summary) where
       → a.0.opening.committed + sum counts + growth < 2 ^ 64
       → Allows (KeepsRule summary o) slots id a word (λ n. (n + growth) % 2 ^ 64) (Publishes (step slots word growth 0 none) a)
   publishes slots id t word growth counts a holding is room s r deep at fit =
-      let v : View = a.0 in
+      let v : SeatView = a.0 in
       let active : IsActive v.stage = subst IsActive (sym holding) tt in
       let ok = r.each_seat id v at active in
       let mine : StageFits r.ticket r.serving r.counts r.holder id (Holding t counts) =
@@ -45,7 +45,7 @@ module _ {T : Type 0} (summary : T → Summary) (o : Summary) where
       let same_sum : sum counts ≡ sum r.counts = ap sum mine.3 in
       let part : n ≤ sum r.counts = get_or-le-sum_by (λ (z : ℕ). z) r.counts c 0 c_inside in
       let fits : (n + growth) % 2 ^ 64 ≡ n' = omega arith in
-      let w : View = record v { stage = Holding t cs; own = set v.own c (Some n'); seen = v.opening.committed + sum cs } in
+      let w : SeatView = record v { stage = Holding t cs; own = set v.own c (Some n'); seen = v.opening.committed + sum cs } in
       let w_is : w ≡ after_publish v growth =
       ap (λ (z : Stage). let l : List ℕ = set (counts_read z) c (get_or (counts_read z) c 0 + growth) in
       record v { stage = Holding (ticket_of z) l; own = set v.own c (Some (get_or (counts_read z) c 0 + growth)); seen = v.opening.committed + sum l })
@@ -117,7 +117,7 @@ module _ {T : Type 0} (summary : T → Summary) (o : Summary) where
         at_home = λ free. absurd (free id w (set_here s.views id w (inside s.views id v at)) tt);
       } in
       let at_word : suc (suc c) ≡ word = omega arith in
-      let Goal : List ℕ × ℕ → Type 0 = λ p. (w : View) × (x : Act (Option T)) × Valid s.homes a.1 x
+      let Goal : List ℕ × ℕ → Type 0 = λ p. (w : SeatView) × (x : Act (Option T)) × Valid s.homes a.1 x
       × KeepsRule summary o (stepped (record { words = p.0; homes = s.homes; views = s.views }) p.1 ((get_or p.0 p.1 0 + growth) % 2 ^ 64) id a.1 w x)
       × Publishes (step slots p.1 growth 0 none) a (get_or p.0 p.1 0) (w, carried_after a.1 x) in
       subst Goal (λ k. (sym r.words k, at_word k)) (
@@ -126,5 +126,5 @@ module _ {T : Type 0} (summary : T → Summary) (o : Summary) where
         tt,
         subst (λ (z : ℕ). KeepsRule summary o record { words = r.ticket ∷ r.serving ∷ set r.counts c z; homes = s.homes; views = set s.views id w })
             (sym fits) new,
-        ap (λ (z : View). (z, a.1)) w_is,
+        ap (λ (z : SeatView). (z, a.1)) w_is,
       )

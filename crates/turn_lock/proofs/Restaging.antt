@@ -5,7 +5,7 @@ use mathlib.Core.Option as maybe
 use lib.ListN.{get_elem?}
 use Rattle.atomic_table.specs.Table.{State}
 use Rattle.turn_lock.specs.declared.view.Summary.{Summary}
-use Rattle.turn_lock.specs.declared.view.View.{View}
+use Rattle.turn_lock.specs.declared.view.SeatView.{SeatView}
 use Rattle.turn_lock.specs.declared.view.Stage.{Stage}
 use Rattle.turn_lock.specs.Summary.{HasGrown}
 use Rattle.turn_lock.specs.View.{left_of, ticket_count, HasTicket, IsActive, IsHolding, at_stage}
@@ -18,14 +18,14 @@ module _ {T : Type 0} (summary : T → Summary) (o : Summary) where
   abbrev pub IsHome : List (maybe.Option (Option T)) → List ℕ → Type 0
   IsHome homes counts = (x : T) × (homes ≡ some (Some x) ∷ []) × HasGrown o counts (summary x)
 
-  pub restages_with : (s : State (Option T) View) (r : KeepsRule summary o s) (id : ℕ) (v : View) (stage : Stage) (homes' : List (maybe.Option (Option T)))
+  pub restages_with : (s : State (Option T) SeatView) (r : KeepsRule summary o s) (id : ℕ) (v : SeatView) (stage : Stage) (homes' : List (maybe.Option (Option T)))
       → get_elem? s.views id ≡ some v → IsActive v.stage → IsActive stage → ticket_count stage ≡ ticket_count v.stage
       → ((n : ℕ) → HasTicket v.stage n → HasTicket stage n) → StageFits r.ticket r.serving r.counts r.holder id stage
       → (NoneHolds (set s.views id (at_stage v stage)) → IsHome homes' r.counts)
       → KeepsRule summary o record { words = r.ticket ∷ r.serving ∷ r.counts; homes = homes'; views = set s.views id (at_stage v stage) }
   restages_with s r id v stage homes' at active stays_active as_many has fits home =
       let ok = r.each_seat id v at active in
-      let w : View = at_stage v stage in record {
+      let w : SeatView = at_stage v stage in record {
         ticket = r.ticket;
         serving = r.serving;
         counts = r.counts;
@@ -57,7 +57,7 @@ module _ {T : Type 0} (summary : T → Summary) (o : Summary) where
       }
 
   -- the slot stays as it is
-  pub restages : (s : State (Option T) View) (r : KeepsRule summary o s) (id : ℕ) (v : View) (stage : Stage)
+  pub restages : (s : State (Option T) SeatView) (r : KeepsRule summary o s) (id : ℕ) (v : SeatView) (stage : Stage)
       → get_elem? s.views id ≡ some v → IsActive v.stage → IsActive stage → ticket_count stage ≡ ticket_count v.stage
       → ((n : ℕ) → HasTicket v.stage n → HasTicket stage n) → (IsHolding v.stage → IsHolding stage)
       → StageFits r.ticket r.serving r.counts r.holder id stage

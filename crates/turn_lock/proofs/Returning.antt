@@ -9,7 +9,7 @@ use Rattle.std.proofs.lemmas.List.Sums.{get_or-le-sum_by}
 use Rattle.atomic_table.specs.Table.{rest, step, Allows}
 use Rattle.atomic_table.specs.Seated.{TableId}
 use Rattle.turn_lock.specs.declared.view.Summary.{Summary}
-use Rattle.turn_lock.specs.declared.view.View.{View}
+use Rattle.turn_lock.specs.declared.view.SeatView.{SeatView}
 use Rattle.turn_lock.specs.Summary.{Commits, HasGrown}
 use Rattle.turn_lock.specs.Seat.{SeatFields, TurnFields, own_of}
 use Rattle.turn_lock.specs.View.{ticket_of, counts_read, grown_counts, after_publish, after_pass}
@@ -80,7 +80,7 @@ module _ {T : Type 0} (a : TableSeat T) (caller turns committed : ℕ) (own : Li
   abbrev counts : List ℕ
   counts = counts_read a.0.stage
 
-  abbrev given_view : View
+  abbrev given_view : SeatView
   given_view = after_pass (after_publish a.0 growth)
 
   growth_of : growth ≡ x.committed - y.committed
@@ -117,7 +117,7 @@ module _ {T : Type 0} (a : TableSeat T) (caller turns committed : ℕ) (own : Li
   seen_is : given_view.seen ≡ x.committed
   seen_is = sym returned.committed
 
-  pub mirrors_given : (views : List View) (seen count : ℕ) → views ≡ given_view ∷ [] → seen ≡ x.committed
+  pub mirrors_given : (views : List SeatView) (seen count : ℕ) → views ≡ given_view ∷ [] → seen ≡ x.committed
       → get_or own (caller - 1) None ≡ Some count
       → MirrorsSeat views caller (turns + 1) seen (set own (caller - 1) (Some (count + growth)))
   mirrors_given views seen count one is e =
@@ -135,7 +135,7 @@ module _ {T : Type 0} (a : TableSeat T) (caller turns committed : ℕ) (own : Li
         places = length-set own (caller - 1) (Some (count + growth)) ∙ mirrors.places;
         speaks = (get_or counts p 0 + growth, get_or-set_same a.0.own p (Some (get_or counts p 0 + growth)) None own_inside);
       } in
-      subst (λ (l : List View). MirrorsSeat l caller (turns + 1) seen (set own (caller - 1) (Some (count + growth)))) (sym one) given
+      subst (λ (l : List SeatView). MirrorsSeat l caller (turns + 1) seen (set own (caller - 1) (Some (count + growth)))) (sym one) given
 
   pub given_back : (table : TableId) → IsGivenBack (record { seat = seat_of table a.0; taken = y }) x (seat_of table given_view)
   given_back table =
@@ -160,10 +160,10 @@ module _ {T : Type 0} (a : TableSeat T) (caller turns committed : ℕ) (own : Li
       → Allows (KeepsRule summary o) slots id b word (λ n. (n + growth) % 2 ^ 64) (Publishes (step slots word growth 0 none) b)
   publish_allowed summary o slots id word b e is low =
       let place = place_is in
-      let same : b.0.place ≡ a.0.place = ap (λ (v : View). v.place) e in
-      let began : b.0.opening.committed ≡ a.0.opening.committed = ap (λ (v : View). v.opening.committed) e in
+      let same : b.0.place ≡ a.0.place = ap (λ (v : SeatView). v.place) e in
+      let began : b.0.opening.committed ≡ a.0.opening.committed = ap (λ (v : SeatView). v.opening.committed) e in
       let total = growth_fits in
-      publishes summary o slots id (ticket_of a.0.stage) word growth counts b (ap (λ (v : View). v.stage) e ∙ mirrors.holding) (omega arith) (omega arith)
+      publishes summary o slots id (ticket_of a.0.stage) word growth counts b (ap (λ (v : SeatView). v.stage) e ∙ mirrors.holding) (omega arith) (omega arith)
 
   published_seat : (z : T) (b d : TableSeat T) → b ≡ (a.0, (0, Some z) ∷ rest a.1) → d ≡ (after_publish b.0 growth, b.1)
       → d ≡ (after_publish a.0 growth, (0, Some z) ∷ [])
@@ -180,7 +180,7 @@ module _ {T : Type 0} (a : TableSeat T) (caller turns committed : ℕ) (own : Li
       (ap (λ (u : TableSeat T). u.1) now)
       (subst (λ (p : TableSeat T × Summary). HasGrown p.0.0.opening (grown_counts a.0 growth) p.1) (λ k. (sym now k, sym is k)) returned)
 
-  pub given_views : (z : T) (b d e : TableSeat T) (views : List View) → b ≡ (a.0, (0, Some z) ∷ rest a.1)
+  pub given_views : (z : T) (b d e : TableSeat T) (views : List SeatView) → b ≡ (a.0, (0, Some z) ∷ rest a.1)
       → d ≡ (after_publish b.0 growth, b.1) → e ≡ (after_pass d.0, rest d.1) → e.0 ∷ [] ≡ views → views ≡ given_view ∷ []
   given_views z b d e views hb hd he hv = sym hv ∙ ap (λ (u : TableSeat T). u.0 ∷ [])
       (he ∙ ap (λ (u : TableSeat T). (after_pass u.0, rest u.1)) (published_seat z b d hb hd))

@@ -11,7 +11,7 @@ use Rattle.std.proofs.lemmas.Option.{none-some, same_Some}
 use Rattle.atomic_table.specs.Table.{Splits}
 use Rattle.atomic_table.proofs.Lists.{at_longer, at_last}
 use Rattle.turn_lock.specs.declared.view.Summary.{Summary}
-use Rattle.turn_lock.specs.declared.view.View.{View}
+use Rattle.turn_lock.specs.declared.view.SeatView.{SeatView}
 use Rattle.turn_lock.specs.Seat.{only}
 use Rattle.turn_lock.specs.View.{own_at, left_of, IsActive, last_of, after_split, new_view}
 use Rattle.turn_lock.specs.Rule.{SeatFits, Speaks, KeepsRule}
@@ -27,21 +27,21 @@ count-only i room =
     omega arith
 
 module _ {T : Type 0} (summary : T → Summary) (o : Summary) where
-  pub splits : (id n : ℕ) (v : View) → IsActive v.stage → own_at v 0 ≡ Some n → last_of v < 64
+  pub splits : (id n : ℕ) (v : SeatView) → IsActive v.stage → own_at v 0 ≡ Some n → last_of v < 64
       → Splits (KeepsRule summary o) id v (after_split v) (new_view v)
   splits id n v active first room s r at =
       let ok = r.each_seat id v at active in
       let last_is : last_of v ≡ r.last = ap (λ (z : Option ℕ). unwrap_or z 0) (ok.holds_last n first) in
       let i : ℕ = last_of v in
-      let l : View = after_split v in
-      let w : View = new_view v in
-      let views : List View = set s.views id l in
+      let l : SeatView = after_split v in
+      let w : SeatView = new_view v in
+      let views : List SeatView = set s.views id l in
       let new : ℕ = length s.views in
       let first_own = ok.own 0 n first in
       let owner : ℕ → ℕ = put r.owner r.last new in
       let given = r.given in
-      let P : ℕ → View → Type 0 = λ j d. IsActive d.stage → SeatFits o r.ticket r.serving (suc r.last) r.counts r.holder owner j d in
-      let old_ones : (j : ℕ) (d : View) → get_elem? views j ≡ some d → P j d = each_seat_stays P s.views id l
+      let P : ℕ → SeatView → Type 0 = λ j d. IsActive d.stage → SeatFits o r.ticket r.serving (suc r.last) r.counts r.holder owner j d in
+      let old_ones : (j : ℕ) (d : SeatView) → get_elem? views j ≡ some d → P j d = each_seat_stays P s.views id l
       (λ _. record {
         opening = ok.opening;
         stage = ok.stage;
@@ -104,7 +104,7 @@ module _ {T : Type 0} (summary : T → Summary) (o : Summary) where
         unused = λ c high. r.unused c (omega arith);
         total = let a = sum_at left_of s.views id v l at in let b = sum_by_push left_of views w in let now = r.total in omega arith;
         each_seat = λ j d e lives. ⊎_elim (λ there. old_ones j d there lives)
-            (λ (t : (j ≡ length views) × (w ≡ d)). subst (λ (x : ℕ × View). SeatFits o r.ticket r.serving (suc r.last) r.counts r.holder owner x.0 x.1)
+            (λ (t : (j ≡ length views) × (w ≡ d)). subst (λ (x : ℕ × SeatView). SeatFits o r.ticket r.serving (suc r.last) r.counts r.holder owner x.0 x.1)
             (λ k. (sym (t.0 ∙ length-set s.views id l) k, t.1 k)) new_fits)
             (snoc_at views w d j e);
         at_home = λ free. r.at_home (none_held s.views id v l at (λ h. h) (λ j u there. free j u (at_longer views (w ∷ []) j u there)));

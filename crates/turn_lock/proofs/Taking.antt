@@ -7,7 +7,7 @@ use Rattle.std.proofs.Math.Seq.{take-length}
 use Rattle.atomic_table.specs.Table.{step, Act, takes, stepped, carried_after, Valid, Allows}
 use Rattle.atomic_table.proofs.Lists.{set_here}
 use Rattle.turn_lock.specs.declared.view.Summary.{Summary}
-use Rattle.turn_lock.specs.declared.view.View.{View}
+use Rattle.turn_lock.specs.declared.view.SeatView.{SeatView}
 use Rattle.turn_lock.specs.declared.view.Stage.{Stage}
 use Rattle.turn_lock.specs.declared.view.Stage.TheVariants.{Called, Holding}
 use Rattle.turn_lock.specs.Summary.{HasGrown}
@@ -22,7 +22,7 @@ module _ {T : Type 0} (summary : T → Summary) (o : Summary) where
   pub takes_slot : (slots id t : ℕ) (counts : List ℕ) (a : TableSeat T) → a.0.stage ≡ Called t counts → length counts ≡ 64
       → Allows (KeepsRule summary o) slots id a 1 (λ n. n) (TakesSlot summary (step slots 1 0 0 none) a)
   takes_slot slots id t counts a called all s r deep at fit =
-      let v : View = a.0 in
+      let v : SeatView = a.0 in
       let active : IsActive v.stage = subst IsActive (sym called) tt in
       let ok = r.each_seat id v at active in
       let mine : StageFits r.ticket r.serving r.counts r.holder id (Called t counts) =
@@ -33,10 +33,10 @@ module _ {T : Type 0} (summary : T → Summary) (o : Summary) where
       holding_served r.ticket r.serving r.counts r.holder j u.stage (r.each_seat j u there (active_holding u.stage holding)).stage holding in
       let id_is : r.holder r.serving ≡ id = ap r.holder (sym mine.0) ∙ mine.2 in
       let same : u ≡ v = same_at s.views j id u v (sym j_is ∙ id_is) there at in
-      subst IsHolding (ap (λ (z : View). z.stage) same ∙ called) holding in
+      subst IsHolding (ap (λ (z : SeatView). z.stage) same ∙ called) holding in
       let home = r.at_home free in
       let x : T = home.0 in
-      let w : View = at_stage v (Holding t counts) in
+      let w : SeatView = at_stage v (Holding t counts) in
       let present : counts_read v.stage ≡ r.counts = ap counts_read called ∙ whole in
       let value : HasGrown v.opening (counts_read v.stage) (summary x) =
       subst (λ (p : Summary × List ℕ). HasGrown p.0 p.1 (summary x)) (λ k. (sym ok.opening k, sym present k)) home.2 in
@@ -44,7 +44,7 @@ module _ {T : Type 0} (summary : T → Summary) (o : Summary) where
       (λ k h. subst (λ (z : Stage). HasTicket z k) called h) (mine.0, mine.1, mine.2, whole)
       (λ none_holds. absurd (none_holds id w (set_here s.views id w (inside s.views id v at)) tt)) in
       let seen : v.seen ≤ (summary x).committed = let a = ok.seen in let b = home.2.committed in omega arith in
-      let Goal : List ℕ → Type 0 = λ ws. (w : View) × (y : Act (Option T)) × Valid s.homes a.1 y
+      let Goal : List ℕ → Type 0 = λ ws. (w : SeatView) × (y : Act (Option T)) × Valid s.homes a.1 y
       × KeepsRule summary o (stepped (record { words = ws; homes = s.homes; views = s.views }) 1 (get_or ws 1 0) id a.1 w y)
       × TakesSlot summary (step slots 1 0 0 none) a (get_or ws 1 0) (w, carried_after a.1 y) in
       subst Goal (sym r.words) (

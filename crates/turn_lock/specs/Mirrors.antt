@@ -2,19 +2,19 @@
 use Rattle.std.specs.Prelude.{◌≡◌, ℕ, suc, ◌<◌, List, [], ◌∷◌, length, Option, Some, None, slice_index}
 use Rattle.atomic_table.specs.Seated.{TableId}
 use Rattle.turn_lock.specs.declared.view.Summary.{Summary}
-use Rattle.turn_lock.specs.declared.view.View.{View}
+use Rattle.turn_lock.specs.declared.view.SeatView.{SeatView}
 use Rattle.turn_lock.specs.declared.view.Stage.TheVariants.{Idle, Holding}
 use Rattle.turn_lock.specs.Summary.{HasGrown}
 use Rattle.turn_lock.specs.Seat.{SeatFields}
 use Rattle.turn_lock.specs.View.{most_tickets, own_at, ticket_of, counts_read, spent}
 use Rattle.turn_lock.specs.Steps.{TableSeat}
 
-abbrev pub view_of : List View → View
+abbrev pub view_of : List SeatView → SeatView
 view_of [] = spent
 view_of (v ∷ views) = v
 
 -- what contracts see of the seat with this view, at the table with this id
-abbrev pub seat_of : TableId → View → SeatFields
+abbrev pub seat_of : TableId → SeatView → SeatFields
 seat_of id v = record {
   lock = record { id = id; opening = v.opening };
   caller = suc v.place;
@@ -25,7 +25,7 @@ seat_of id v = record {
 }
 
 -- the fields of a seat mirror its view, and it is idle
-pub record MirrorsSeat (views : List View) (caller turns seen : ℕ) (own : List (Option ℕ)) : Type 0 where
+pub record MirrorsSeat (views : List SeatView) (caller turns seen : ℕ) (own : List (Option ℕ)) : Type 0 where
   pub one : views ≡ view_of views ∷ []
   pub idle : (view_of views).stage ≡ Idle
   pub caller_is : caller ≡ suc (view_of views).place

@@ -5,7 +5,7 @@ use mathlib.Core.Option.{some}
 use lib.ListN.{get_elem?}
 use Rattle.atomic_table.specs.Table.{State}
 use Rattle.turn_lock.specs.declared.view.Summary.{Summary}
-use Rattle.turn_lock.specs.declared.view.View.{View}
+use Rattle.turn_lock.specs.declared.view.SeatView.{SeatView}
 use Rattle.turn_lock.specs.declared.view.Stage.{Stage}
 use Rattle.turn_lock.specs.declared.view.Stage.TheVariants.{Spent, Idle, Waiting, Called, Holding}
 use Rattle.turn_lock.specs.Summary.{HasGrown}
@@ -24,7 +24,7 @@ module _ (ticket serving : ℕ) (counts : List ℕ) (holder : ℕ → ℕ) (seat
 
 -- what the rule says of a seat that was not joined into another
 pub record SeatFits (start : Summary) (ticket serving last : ℕ) (counts : List ℕ) (holder owner : ℕ → ℕ) (seat : ℕ)
-    (v : View) : Type 0 where
+    (v : SeatView) : Type 0 where
   pub opening : v.opening ≡ start
   pub stage : StageFits ticket serving counts holder seat v.stage
   -- a caller that it speaks for has a number that was given out and no other seat, and its own count is the present one
@@ -39,15 +39,15 @@ pub record SeatFits (start : Summary) (ticket serving last : ℕ) (counts : List
   pub last_held : (k : ℕ) → v.last_caller ≡ Some k → (k ≡ last) × ((n : ℕ) × (own_at v 0 ≡ Some n))
 
 -- the seat speaks for the caller at place i
-abbrev pub Speaks : List View → ℕ → ℕ → Type 0
-Speaks views seat i = (v : View) × (get_elem? views seat ≡ some v) × IsActive v.stage
+abbrev pub Speaks : List SeatView → ℕ → ℕ → Type 0
+Speaks views seat i = (v : SeatView) × (get_elem? views seat ≡ some v) × IsActive v.stage
     × ((n : ℕ) × (own_at v i ≡ Some n))
 
-abbrev pub NoneHolds : List View → Type 0
-NoneHolds views = (seat : ℕ) (v : View) → get_elem? views seat ≡ some v → ¬ IsHolding v.stage
+abbrev pub NoneHolds : List SeatView → Type 0
+NoneHolds views = (seat : ℕ) (v : SeatView) → get_elem? views seat ≡ some v → ¬ IsHolding v.stage
 
 -- the rule, where `summary` reads the value, and `opening` is the summary of the one that the lock was made with
-pub record KeepsRule {T : Type 0} (summary : T → Summary) (opening : Summary) (s : State (Option T) View) : Type 0 where
+pub record KeepsRule {T : Type 0} (summary : T → Summary) (opening : Summary) (s : State (Option T) SeatView) : Type 0 where
   pub ticket : ℕ
   pub serving : ℕ
   pub counts : List ℕ
@@ -61,14 +61,14 @@ pub record KeepsRule {T : Type 0} (summary : T → Summary) (opening : Summary) 
   -- each ticket from serving to ticket - 1 is held
   pub order : serving ≤ ticket
   pub queue : (t : ℕ) → serving ≤ t → t < ticket
-      → (v : View) × (get_elem? s.views (holder t) ≡ some v) × HasTicket v.stage t
+      → (v : SeatView) × (get_elem? s.views (holder t) ≡ some v) × HasTicket v.stage t
   -- each number given out is spoken for, and the count of any other is 0
   pub given : (1 ≤ last) × (last ≤ 64)
   pub spoken : (i : ℕ) → i < last → Speaks s.views (owner i) i
   pub unused : (i : ℕ) → last ≤ i → slice_index counts i ≡ 0
   -- the tickets drawn, and those that may still be drawn, are all that the callers may draw
   pub total : ticket + sum_by left_of s.views ≡ most_tickets * last
-  pub each_seat : (seat : ℕ) (v : View) → get_elem? s.views seat ≡ some v → IsActive v.stage
+  pub each_seat : (seat : ℕ) (v : SeatView) → get_elem? s.views seat ≡ some v → IsActive v.stage
       → SeatFits opening ticket serving last counts holder owner seat v
   -- if no seat holds the slot, the slot has a value, which has grown by the counts
   pub at_home : NoneHolds s.views → (x : T) × (s.homes ≡ some (Some x) ∷ []) × HasGrown opening counts (summary x)

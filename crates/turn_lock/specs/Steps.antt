@@ -3,14 +3,14 @@
 use Rattle.std.specs.Prelude.{◌≡◌, ℕ, ◌^◌, ◌≤◌, ◌∷◌, slice_index, Option, Some}
 use Rattle.atomic_table.specs.Table.{Me, Step, rest}
 use Rattle.turn_lock.specs.declared.view.Summary.{Summary}
-use Rattle.turn_lock.specs.declared.view.View.{View}
+use Rattle.turn_lock.specs.declared.view.SeatView.{SeatView}
 use Rattle.turn_lock.specs.Summary.{HasGrown}
 use Rattle.turn_lock.specs.View.{own_at, counts_read, WaitsFor, after_draw, after_call, after_count, after_take}
 use Rattle.turn_lock.specs.View.{after_publish, after_pass}
 
 -- a seat at the table: its view, and the slots that are out with it
 abbrev pub TableSeat : Type 0 → Type 0
-TableSeat T = Me (Option T) View
+TableSeat T = Me (Option T) SeatView
 
 module _ {T : Type 0} where
   abbrev pub DrawsTicket : Step (Option T) → TableSeat T → ℕ → TableSeat T → Type 0

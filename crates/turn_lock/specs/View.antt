@@ -4,7 +4,7 @@ use Rattle.std.specs.Prelude.{slice_index, slice_index_or, slice_set}
 use Rattle.std.specs.Option.{option_or}
 use Rattle.tierra_model.specs.Setups.{setup_for}
 use Rattle.turn_lock.specs.declared.view.Summary.{Summary}
-use Rattle.turn_lock.specs.declared.view.View.{View}
+use Rattle.turn_lock.specs.declared.view.SeatView.{SeatView}
 use Rattle.turn_lock.specs.declared.view.Stage.{Stage}
 use Rattle.turn_lock.specs.declared.view.Stage.TheVariants.{Spent, Idle, Waiting, Called, Holding}
 use Rattle.turn_lock.specs.Seat.{only}
@@ -14,10 +14,10 @@ abbrev pub most_tickets : ℕ
 most_tickets = 2 ^ 40
 
 -- the count of the caller at this place, if the view speaks for it
-abbrev pub own_at : View → ℕ → Option ℕ
+abbrev pub own_at : SeatView → ℕ → Option ℕ
 own_at v i = slice_index_or v.own i None
 
-abbrev pub left_of : View → ℕ
+abbrev pub left_of : SeatView → ℕ
 left_of v = v.left
 
 -- how many tickets a seat holds
@@ -74,11 +74,11 @@ IsHolding (Waiting t) = ⊥
 IsHolding (Called t read) = ⊥
 IsHolding (Holding t read) = Unit {0}
 
-abbrev pub at_stage : View → Stage → View
+abbrev pub at_stage : SeatView → Stage → SeatView
 at_stage v stage = record v { stage = stage }
 
 -- the view of the seat that a new lock comes with
-abbrev pub first_view : Summary → View
+abbrev pub first_view : Summary → SeatView
 first_view opening = record {
   opening = opening;
   stage = Idle;
@@ -91,27 +91,27 @@ first_view opening = record {
 }
 
 -- a ticket is drawn
-abbrev pub after_draw : View → ℕ → View
+abbrev pub after_draw : SeatView → ℕ → SeatView
 after_draw v ticket = record v { stage = Waiting ticket; left = v.left - 1 }
 
 -- the ticket is served
-abbrev pub after_call : View → View
+abbrev pub after_call : SeatView → SeatView
 after_call v = at_stage v (Called (ticket_of v.stage) [])
 
 -- one more count is read
-abbrev pub after_count : View → ℕ → View
+abbrev pub after_count : SeatView → ℕ → SeatView
 after_count v count = at_stage v (Called (ticket_of v.stage) (counts_read v.stage ++ count ∷ []))
 
 -- the slot is taken
-abbrev pub after_take : View → View
+abbrev pub after_take : SeatView → SeatView
 after_take v = at_stage v (Holding (ticket_of v.stage) (counts_read v.stage))
 
 -- the counts that were read, with that of its own caller grown
-abbrev pub grown_counts : View → ℕ → List ℕ
+abbrev pub grown_counts : SeatView → ℕ → List ℕ
 grown_counts v growth = slice_set (counts_read v.stage) v.place (slice_index (counts_read v.stage) v.place + growth)
 
 -- the growth is published
-abbrev pub after_publish : View → ℕ → View
+abbrev pub after_publish : SeatView → ℕ → SeatView
 after_publish v growth = record v {
   stage = Holding (ticket_of v.stage) (grown_counts v growth);
   own = slice_set v.own v.place (Some (slice_index (counts_read v.stage) v.place + growth));
@@ -119,19 +119,19 @@ after_publish v growth = record v {
 }
 
 -- the slot is given back, and the next ticket served
-abbrev pub after_pass : View → View
+abbrev pub after_pass : SeatView → SeatView
 after_pass v = record v { stage = Idle; turns = v.turns + 1 }
 
 -- the number given out last, which is the place of the caller that comes next
-abbrev pub last_of : View → ℕ
+abbrev pub last_of : SeatView → ℕ
 last_of v = unwrap_or v.last_caller 0
 
 -- one more caller number is given out
-abbrev pub after_split : View → View
+abbrev pub after_split : SeatView → SeatView
 after_split v = record v { last_caller = Some (suc (last_of v)) }
 
 -- the view of the seat for that caller
-abbrev pub new_view : View → View
+abbrev pub new_view : SeatView → SeatView
 new_view v = record {
   opening = v.opening;
   stage = Idle;
@@ -150,7 +150,7 @@ merged (x ∷ xs) [] = x ∷ xs
 merged (x ∷ xs) (y ∷ ys) = option_or x y ∷ merged xs ys
 
 -- the second seat is joined into the first
-abbrev pub after_join : View → View → View
+abbrev pub after_join : SeatView → SeatView → SeatView
 after_join v w = record v {
   seen = max v.seen w.seen;
   turns = v.turns + w.turns;
@@ -164,7 +164,7 @@ pub no_summary : Summary
 no_summary = record { setup = (setup_for [], 0); committed = 0; entries = [] }
 
 -- the view of a seat that was joined into another
-abbrev pub spent : View
+abbrev pub spent : SeatView
 spent = record {
   opening = no_summary;
   stage = Spent;

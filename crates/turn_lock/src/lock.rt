@@ -12,7 +12,7 @@ use crate::seat::{Seat, Turn};
 use crate::steps::{
     DrawTicket, JoinSeats, LoadCount, LoadServing, PassOn, Publish, SplitSeat, TakeSlot,
 };
-use crate::view::{LockRule, View};
+use crate::view::{LockRule, SeatView};
 use atomic_table::{Badge, Refused, Table};
 use std::alloc::{AllocFailed, Global};
 use std::hint::spin_loop;
@@ -33,7 +33,7 @@ const MORE_LOOKS: u32 = 500;
 const FEW: u64 = 3;
 
 // A seat, as the table knows it.
-type TableSeat<T> = atomic_table::Seat<Option<T>, View>;
+type TableSeat<T> = atomic_table::Seat<Option<T>, SeatView>;
 
 /// There was no memory for a lock. The value comes back.
 #[derive(Debug, Drop)]
@@ -44,7 +44,7 @@ pub struct NoRoom<T> {
 /// A ticket lock over a value. Tickets are served in the order in which they were drawn.
 #[derive(Drop)]
 pub struct TurnLock<T: Kept> {
-    table: Table<Option<T>, View, Snapshot<T>, LockRule, Global>,
+    table: Table<Option<T>, SeatView, Snapshot<T>, LockRule, Global>,
     // How many are parked or about to park. Passing the turn on wakes them, and skips the call if there are none.
     parked: AtomicU64,
     alloc: Global,

@@ -4,7 +4,7 @@ ghost use Rattle.std.specs.Prelude.{◌≡◌, ◌≤◌};
 ghost use Rattle.turn_lock.specs.Seat.{own_of};
 
 use crate::kept::Kept;
-use crate::view::View;
+use crate::view::SeatView;
 use atomic_table::Badge;
 use std::marker::Model;
 use std::snapshot::Snapshot;
@@ -12,7 +12,7 @@ use std::snapshot::Snapshot;
 /// The right to take turns at a lock. It speaks for its own caller, and for those whose seats were joined into it.
 #[derive(Drop)]
 pub struct Seat {
-    pub(crate) badge: Badge<View>,
+    pub(crate) badge: Badge<SeatView>,
     pub(crate) caller: u32,
     pub(crate) turns: u64,
     pub(crate) seen: u64,
@@ -69,7 +69,7 @@ impl Seat {
 /// A turn: the seat that took it, while the value is out. Only `give` ends a turn. It is not `Drop`, because after a
 /// dropped turn the lock would serve nobody.
 pub struct Turn<T: Kept> {
-    pub(crate) table_seat: atomic_table::Seat<Option<T>, View>,
+    pub(crate) table_seat: atomic_table::Seat<Option<T>, SeatView>,
     pub(crate) caller: u32,
     pub(crate) turns: u64,
     pub(crate) own: Box<[Option<u64>; 64]>,

@@ -32,7 +32,7 @@ pub enum Stage {
 }
 
 /// What a seat knows.
-pub struct View {
+pub struct SeatView {
     /// The summary of the value that the lock was made with.
     pub opening: Summary,
     pub stage: Stage,
@@ -51,7 +51,7 @@ pub struct View {
 /// The rule of the table.
 pub struct LockRule;
 
-impl<T: Kept> TableRule<Option<T>, View, Snapshot<T>> for LockRule {
+impl<T: Kept> TableRule<Option<T>, SeatView, Snapshot<T>> for LockRule {
     ghost use Rattle.turn_lock.specs.Summary.{summary_of};
     ghost use Rattle.turn_lock.specs.View.{first_view};
     ghost use Rattle.turn_lock.specs.Rule.{KeepsRule};

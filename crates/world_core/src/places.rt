@@ -1,5 +1,8 @@
 //! Where records were last seen.
 
+ghost use Rattle.std.specs.Prelude.{◌≡◌};
+ghost use Rattle.std.specs.VecDeque.{deque_capacity};
+
 use std::alloc::Global;
 use std::collections::VecDeque;
 
@@ -72,11 +75,15 @@ impl Places {
         }
     }
 
-    /// Notes a birth: the newborn's record is the last.
-    pub(crate) fn note_birth(&mut self, id: u64) {
+    /// Notes a birth, if there is room: the newborn's record is the last. It takes no memory.
+    pub(crate) fn note_birth(&mut self, id: u64)
+        ensures { deque_capacity self.new.ids ≡ deque_capacity self.old.ids }
+    {
         let place = self.ids.len();
         self.note(id, place);
-        let _ = self.ids.push_back(id);
+        if place < self.ids.capacity() {
+            let _ = self.ids.push_back(id);
+        }
     }
 
     /// Notes that the creature at the place left. Later records move down by one place, which `left` accounts for.

@@ -1,4 +1,4 @@
-//! Tests of worlds: how they begin, their bytes, and runs of one creature at a time.
+//! Tests of worlds: how they begin, their bytes, runs of one creature at a time, and versions of the soup.
 #![tactic(auto)]
 
 #[cfg(test)]
@@ -11,3 +11,5 @@ mod looks;
 mod runs;
 #[cfg(test)]
 mod starts;
+#[cfg(test)]
+mod versions;

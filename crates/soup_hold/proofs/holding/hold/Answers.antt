@@ -1,10 +1,8 @@
 use Rattle.std.proofs.Common.{◌∙◌, ap, arith, sym}
 use Rattle.std.proofs.lemmas.Result.{err_from_is_err_and}
 use Rattle.soup_checkpoint.specs.declared.owner.Owner.{Owner}
-use Rattle.soup_hold.specs.Text.{held_quanta}
 use Rattle.soup_hold.proofs.Settled.{first_settings}
-use Rattle.soup_hold.proofs.Together.{begun_quietly, done_then, stopped_attaching, stopped_beyond, stopped_then, went_on_unrefused, whole_time}
-use Rattle.soup_hold.proofs.Whole.{beginning_time}
+use Rattle.soup_hold.proofs.Together.{begun_quietly, begun_time, done_then, stopped_attaching, stopped_beyond, stopped_then, went_on_unrefused, whole_time}
 use Rattle.soup_hold.proofs.holding.hold.Goals as goal
 
 pub returns-in_err-shelf-clause-quiet : goal.returns-in_err-shelf-clause-quiet
@@ -12,9 +10,8 @@ returns-in_err-shelf-clause-quiet g c =
     begun_quietly c.args.setup.now c.args.quanta c.args.every (g.D.Desk.state c.args.desk.now) (g.D.Desk.state c.begin.new.desk) c.begin.ensures.quiet
 
 pub returns-in_err-shelf-clause-moments : goal.returns-in_err-shelf-clause-moments
-returns-in_err-shelf-clause-moments g c held first disk is =
-    beginning_time c.args.setup.now held first (held_quanta c.args.every first.quanta c.args.quanta) (g.D.Desk.state c.args.desk.now)
-    (g.D.Desk.state c.begin.new.desk) disk c.begin.ensures.moments
+returns-in_err-shelf-clause-moments g c =
+    begun_time c.args.setup.now c.args.quanta c.args.every (g.D.Desk.state c.args.desk.now) (g.D.Desk.state c.begin.new.desk) c.begin.ensures.moments
 
 pub returns-in_err-shelf-clause-stopped : goal.returns-in_err-shelf-clause-stopped
 returns-in_err-shelf-clause-stopped g c =
@@ -33,9 +30,8 @@ returns-then-held-quanta-clause-quiet g c =
     begun_quietly c.args.setup.now c.args.quanta c.args.every (g.D.Desk.state c.args.desk.now) (g.D.Desk.state c.begin.new.desk) c.begin.ensures.quiet
 
 pub returns-then-held-quanta-clause-moments : goal.returns-then-held-quanta-clause-moments
-returns-then-held-quanta-clause-moments g c held first disk is =
-    beginning_time c.args.setup.now held first (held_quanta c.args.every first.quanta c.args.quanta) (g.D.Desk.state c.args.desk.now)
-    (g.D.Desk.state c.begin.new.desk) disk c.begin.ensures.moments
+returns-then-held-quanta-clause-moments g c =
+    begun_time c.args.setup.now c.args.quanta c.args.every (g.D.Desk.state c.args.desk.now) (g.D.Desk.state c.begin.new.desk) c.begin.ensures.moments
 
 pub hold_from-requires-clause-settings : goal.hold_from-requires-clause-settings
 hold_from-requires-clause-settings g c =
@@ -47,6 +43,7 @@ returns-clause-done g c =
     done_then c.args.setup.now c.args.quanta c.args.every (g.D.Desk.state c.args.desk.now) (g.D.Desk.state c.begin.new.desk) c.in_ok-shelf.shelf
     c.in_ok-shelf.world.world c.in_ok-shelf.ensures.begun c.hold_from.result (g.D.Desk.state c.hold_from.new.desk)
     (omega (arith, c.if-held-quanta.false, c.quanta-held.ensures)) c.begin.ensures.moments.told c.hold_from.ensures.told c.hold_from.ensures.small
+    c.hold_from.ensures.last
 
 pub returns-clause-stopped : goal.returns-clause-stopped
 returns-clause-stopped g c =
@@ -64,4 +61,5 @@ returns-clause-quiet g c =
 pub returns-clause-moments : goal.returns-clause-moments
 returns-clause-moments g c =
     whole_time c.args.setup.now c.args.quanta c.args.every (g.D.Desk.state c.args.desk.now) (g.D.Desk.state c.begin.new.desk) c.in_ok-shelf.shelf
-    c.in_ok-shelf.world.world c.in_ok-shelf.ensures.begun (g.D.Desk.state c.hold_from.new.desk) c.begin.ensures.moments c.hold_from.ensures.moments
+    c.in_ok-shelf.world.world c.in_ok-shelf.ensures.begun (g.D.Desk.state c.hold_from.new.desk)
+    (omega (arith, c.if-held-quanta.false, c.quanta-held.ensures)) c.begin.ensures.moments c.hold_from.ensures.moments

@@ -5,10 +5,10 @@ use Rattle.std.proofs.lemmas.Result.{err_from_is_err_and}
 use Rattle.desk_io.specs.Desk.{Appended, AppendedSome, Elapses}
 use Rattle.soup_checkpoint.specs.Shelf.{SaysSame}
 use Rattle.soup_hold.specs.Holding.{IsHolding, IsSmall}
-use Rattle.soup_hold.specs.Text.{held_lines, held_quanta, last_report, world_at}
+use Rattle.soup_hold.specs.Text.{held_lines, held_quanta, hold_text, last_report, world_at}
 use Rattle.soup_hold.proofs.Stopping.{unless_telling}
-use Rattle.soup_hold.proofs.Telling.{all_told, as_told, lines_alone, none_told, piece_begun, piece_told}
-use Rattle.soup_hold.proofs.Whole.{all_lines, last_report_is, report_has_bytes, report_time}
+use Rattle.desk_io.proofs.Telling.{all_told, as_told, lines_alone, none_told, piece_begun, piece_told}
+use Rattle.soup_hold.proofs.Whole.{all_lines, is_last, last_report_is, lines_time, report_has_bytes, report_time}
 use Rattle.soup_hold.proofs.holding.hold_from.Given.{Over}
 use Rattle.soup_hold.proofs.holding.hold_from.Goals as goal
 use Rattle.soup_hold.proofs.holding.hold_from.Goals.{After-tell}
@@ -21,10 +21,16 @@ text_is g c =
 reported : (g : Over) (c : After-tell g) → IfSome (g.D.Desk.state c.args.desk.now).reads
     (λ file. Elapses (g.D.Desk.state c.args.desk.now) (g.D.Desk.state c.tell.new.self)
     (IsHolding c.args.shelf.owner (SaysSame c.args.shelf.owner file) c.args.world.world
-    (held_quanta c.args.every c.args.world.world.quanta c.args.quanta) (g.D.Desk.state c.args.desk.now).told))
+    (held_quanta c.args.every c.args.world.world.quanta c.args.quanta) (hold_text c.args.world.world c.args.quanta c.args.every)
+    (g.D.Desk.state c.args.desk.now).told))
 reported g c =
-    report_time c.args.shelf.owner c.args.world.world (held_quanta c.args.every c.args.world.world.quanta c.args.quanta)
-    (g.D.Desk.state c.tell.new.self) c.deref.result.now c.in_ok-world.ensures.held.1 c.tell.ensures.call.tells
+    let quanta = held_quanta c.args.every c.args.world.world.quanta c.args.quanta in
+    let before = (g.D.Desk.state c.args.desk.now).told in
+    let time = report_time c.args.shelf.owner c.args.world.world quanta (g.D.Desk.state c.tell.new.self) c.deref.result.now
+    c.in_ok-world.ensures.held.1 c.tell.ensures.call.tells in
+    subst (λ (l : List ℕ). IfSome (g.D.Desk.state c.args.desk.now).reads
+    (λ file. Elapses (g.D.Desk.state c.args.desk.now) (g.D.Desk.state c.tell.new.self)
+    (IsHolding c.args.shelf.owner (SaysSame c.args.shelf.owner file) c.args.world.world quanta (held_lines quanta ++ l) before))) (text_is g c) time
 
 -- all lines were told before the report
 lines : (g : Over) (c : After-tell g) → Appended (g.D.Desk.state c.args.desk.now).told
@@ -40,6 +46,18 @@ returns-in_err-world-clause-told g c =
     let before = (g.D.Desk.state c.args.desk.now).told in
     let stop = err_from_is_err_and c.from_residual.result c.from_residual.ensures.1 in
     rw stop.1 (record { all = tt; partly = piece_begun front report refl (none_told (front ++ report) before) c.in_err-world.ensures.stopped.partly })
+
+pub returns-in_err-world-clause-moments : goal.returns-in_err-world-clause-moments
+returns-in_err-world-clause-moments g c =
+    lines_time c.args.shelf.owner c.args.world.world (held_quanta c.args.every c.args.world.world.quanta c.args.quanta)
+    (last_report c.args.world.world c.args.quanta) (g.D.Desk.state c.args.desk.now) (g.D.Desk.state c.hold_each.new.desk)
+    c.in_err-world.ensures.stopped.time
+
+pub returns-in_err-text-clause-moments : goal.returns-in_err-text-clause-moments
+returns-in_err-text-clause-moments g c =
+    lines_time c.args.shelf.owner c.args.world.world (held_quanta c.args.every c.args.world.world.quanta c.args.quanta)
+    (last_report c.args.world.world c.args.quanta) (g.D.Desk.state c.args.desk.now) (g.D.Desk.state c.hold_each.new.desk)
+    c.in_ok-world.ensures.held.1.time
 
 pub returns-in_err-world-clause-unfinished : goal.returns-in_err-world-clause-unfinished
 returns-in_err-world-clause-unfinished g c =
@@ -103,6 +121,11 @@ returns-clause-told g c =
 
 pub returns-clause-moments : goal.returns-clause-moments
 returns-clause-moments g c = reported g (goal.at.returns-clause-moments g c).After-tell
+
+pub returns-clause-last : goal.returns-clause-last
+returns-clause-last g c =
+    is_last c.args.shelf.owner c.args.world.world (held_quanta c.args.every c.args.world.world.quanta c.args.quanta)
+    (g.D.Desk.state c.tell.new.self) c.deref.result.now c.in_ok-world.ensures.held.1 c.tell.ensures.call.tells
 
 pub returns-clause-small : goal.returns-clause-small
 returns-clause-small g c =

@@ -8,7 +8,7 @@ use Rattle.tierra_model.specs.World.{World}
 use Rattle.soup_hold.specs.Steps.{IsHoldingNext, IsLargeAt}
 use Rattle.soup_hold.specs.Stops.{IfRefused}
 use Rattle.soup_hold.specs.Text.{held_line}
-use Rattle.soup_hold.proofs.Telling.{as_told, none_told}
+use Rattle.desk_io.proofs.Telling.{as_told, none_told}
 use Rattle.soup_hold.proofs.next.hold_next.Given.{Over}
 use Rattle.soup_hold.proofs.next.hold_next.Goals as goal
 use Rattle.soup_hold.proofs.next.hold_next.Goals.{After-keep_and_tell, After-run_on}

@@ -5,7 +5,7 @@ use Rattle.desk_io.specs.Desk.{AppendedSome, Elapses, Tells}
 use Rattle.soup_hold.specs.Steps.{IsHoldingNext}
 use Rattle.soup_hold.specs.Text.{held_line}
 use Rattle.soup_hold.proofs.Appending.{appended_and_telling, appending}
-use Rattle.soup_hold.proofs.Telling.{as_told, none_told}
+use Rattle.desk_io.proofs.Telling.{as_told, none_told}
 use Rattle.soup_hold.proofs.next.keep_and_tell.Given.{Over}
 use Rattle.soup_hold.proofs.next.keep_and_tell.Goals as goal
 use Rattle.soup_hold.proofs.next.keep_and_tell.Goals.{After-keep_state, After-tell}

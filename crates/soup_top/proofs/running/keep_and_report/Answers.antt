@@ -8,7 +8,7 @@ use Rattle.soup_top.specs.Sources.{run_groups, run_report, run_text}
 use Rattle.soup_top.proofs.RunMoments.{Completes-untouched, lines-time, report-time, report_has_bytes}
 use Rattle.soup_top.proofs.Taking.{times_then}
 use Rattle.soup_top.proofs.Unfinished.{unless_telling}
-use Rattle.soup_hold.proofs.Telling.{all_told, lines_alone, none_told, piece_begun, piece_told}
+use Rattle.desk_io.proofs.Telling.{all_told, lines_alone, none_told, piece_begun, piece_told}
 use Rattle.soup_top.proofs.running.keep_and_report.Given.{Over}
 use Rattle.soup_top.proofs.running.keep_and_report.Goals as goal
 use Rattle.soup_top.proofs.running.keep_and_report.Goals.{After-tell}

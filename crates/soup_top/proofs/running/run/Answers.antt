@@ -3,7 +3,7 @@ use Rattle.std.proofs.lemmas.Result.{IfErr-weaker}
 use Rattle.bank_recover.specs.declared.faults.BankFault.{BankFault}
 use Rattle.desk_io.specs.Desk.{AppendedSome, Elapses, TellsText}
 use Rattle.report_text.specs.Bank.{saved_lines}
-use Rattle.soup_hold.proofs.Telling.{as_told, lines_alone, none_told}
+use Rattle.desk_io.proofs.Telling.{as_told, lines_alone, none_told}
 use Rattle.soup_top.specs.Genebank.{RefusesRun}
 use Rattle.soup_top.specs.Sources.{run_groups, run_report, run_text}
 use Rattle.soup_top.specs.Stops.{IfHoldRefused}
@@ -41,6 +41,7 @@ returns-in-Err-clause-moments g c =
       quiet_run = attach-quiet c.args.setup c.args.quanta old new c.attach.ensures.quiet;
       checkpoints = tt;
       quiet_hold = tt;
+      telling = tt;
     }
 
 -- the text was told as the rest of the run told it
@@ -105,4 +106,5 @@ returns-clause-moments g c =
       quiet_run = quiet g w;
       checkpoints = tt;
       quiet_hold = tt;
+      telling = tt;
     }

@@ -10,7 +10,7 @@ use Rattle.soup_top.specs.declared.stop.RunStop.{RunStop}
 use Rattle.soup_top.specs.Keeping.{IsKeeping}
 use Rattle.soup_top.specs.Sources.{run_groups}
 use Rattle.soup_top.proofs.Handed.{end_completes, end_counts, end_differs, end_kept, end_time, end_told, took_none}
-use Rattle.soup_hold.proofs.Telling.{as_told, none_told}
+use Rattle.desk_io.proofs.Telling.{as_told, none_told}
 use Rattle.soup_top.proofs.running.run_with_crew.Given.{Over}
 use Rattle.soup_top.proofs.running.run_with_crew.Goals as goal
 use Rattle.soup_top.proofs.running.run_with_crew.Goals.{After-keep_book}

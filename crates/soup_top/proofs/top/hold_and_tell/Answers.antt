@@ -1,6 +1,6 @@
 use Rattle.std.proofs.lemmas.Result.{err_from_is_err_and}
 use Rattle.soup_top.proofs.Ending.{hold_stops}
-use Rattle.soup_top.proofs.Resuming.{has_true_moments, resumes}
+use Rattle.soup_top.proofs.Resuming.{has_true_moments, leaves_the_last, resumes}
 use Rattle.soup_top.proofs.top.hold_and_tell.Goals as goal
 
 pub returns-in_err-hold-clause-stopped : goal.returns-in_err-hold-clause-stopped
@@ -15,8 +15,9 @@ returns-in_err-hold-clause-moments g c = record {
   kept_up = tt;
   quiet_run = tt;
   checkpoints = has_true_moments c.args.setup c.args.quanta c.args.every (g.D.Desk.state c.args.desk.now)
-      (g.D.Desk.state c.hold.new.desk) c.hold.ensures.setup c.requires.few.1 c.hold.ensures.moments;
+      (g.D.Desk.state c.hold.new.desk) c.hold.ensures.setup c.requires.few.1 c.requires.few.0 c.hold.ensures.moments;
   quiet_hold = c.hold.ensures.quiet;
+  telling = tt;
 }
 
 pub returns-clause-done : goal.returns-clause-done
@@ -27,7 +28,9 @@ returns-clause-done g c =
       begins = tt;
       small = done.small;
       resumed = resumes c.args.setup c.args.quanta c.args.every (g.D.Desk.state c.args.desk.now)
-          (g.D.Desk.state c.hold.new.desk) c.hold.ensures.setup c.requires.few.1 done.told;
+          (g.D.Desk.state c.hold.new.desk) c.hold.ensures.setup c.requires.few.1 c.requires.few.0 done.told;
+      last = leaves_the_last c.args.setup c.args.quanta c.args.every (g.D.Desk.state c.args.desk.now)
+          (g.D.Desk.state c.hold.new.desk) c.hold.ensures.setup c.requires.few.1 c.requires.few.0 done.last;
     }
 
 pub returns-clause-moments : goal.returns-clause-moments
@@ -36,6 +39,7 @@ returns-clause-moments g c = record {
   kept_up = tt;
   quiet_run = tt;
   checkpoints = has_true_moments c.args.setup c.args.quanta c.args.every (g.D.Desk.state c.args.desk.now)
-      (g.D.Desk.state c.hold.new.desk) c.hold.ensures.setup c.requires.few.1 c.hold.ensures.moments;
+      (g.D.Desk.state c.hold.new.desk) c.hold.ensures.setup c.requires.few.1 c.requires.few.0 c.hold.ensures.moments;
   quiet_hold = c.hold.ensures.quiet;
+  telling = tt;
 }

@@ -4,6 +4,7 @@ use Rattle.soup_cells.specs.Pages.{page_cells}
 use Rattle.soup_cells.proofs.Indexed.{HasCell, has-cell}
 use Rattle.soup_cells.proofs.pages.Pages.get.Goals as goal
 use Rattle.soup_cells.proofs.pages.Pages.get.Goals.{After-self}
+use Rattle.soup_cells.specs.declared.page.TheConstants.{PAGE}
 
 there : (c : After-self) → HasCell page_cells c.self.inside.pages.items c.args.at
 there c =
@@ -12,7 +13,7 @@ there c =
 
 pub index-requires : goal.index-requires
 index-requires c =
-    let h : c.args.at / 16384 < length c.self.inside.pages.items = (there c).page in
+    let h : c.args.at / PAGE < length c.self.inside.pages.items = (there c).page in
     search rules
 
 pub get-requires : goal.get-requires

@@ -5,9 +5,10 @@ use Rattle.soup_cells.specs.Pages.{cells_of, page_cells}
 use Rattle.soup_cells.proofs.Indexed.{code-of-page, page-at}
 use Rattle.soup_cells.proofs.pages.Pages.page.Goals as goal
 use Rattle.soup_cells.proofs.pages.Pages.page.Goals.{After-self}
+use Rattle.soup_cells.specs.declared.page.TheConstants.{PAGE}
 
-there : (c : After-self) → 16384 * c.args.number < length (cells_of c.self.inside.pages.items)
-there c = subst (λ (s : SoupFields). 16384 * c.args.number < length s.cells) (sym c.self.view_is) c.requires
+there : (c : After-self) → PAGE * c.args.number < length (cells_of c.self.inside.pages.items)
+there c = subst (λ (s : SoupFields). PAGE * c.args.number < length s.cells) (sym c.self.view_is) c.requires
 
 pub index-requires : goal.index-requires
 index-requires c =
@@ -21,7 +22,7 @@ returns-clause-cells c =
     ∙ (page-at page_cells c.self.inside.pages.items c.self.inside.size c.args.number c.self.invariant.paged
     (there ((goal.at.returns-clause-cells c).After-self))).1
     c.index.result.now c.index.ensures
-    ∙ ap (λ (s : SoupFields). slice_range s.cells (16384 * c.args.number) (min (16384 * c.args.number + 16384) (length s.cells))) c.self.view_is
+    ∙ ap (λ (s : SoupFields). slice_range s.cells (PAGE * c.args.number) (min (PAGE * c.args.number + PAGE) (length s.cells))) c.self.view_is
 
 pub returns-clause-codes : goal.returns-clause-codes
 returns-clause-codes c p h =

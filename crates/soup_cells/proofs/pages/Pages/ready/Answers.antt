@@ -7,6 +7,7 @@ use Rattle.soup_cells.proofs.Flags.{on-ok, own-kept, own-set}
 use Rattle.soup_cells.proofs.Indexed.{HasCell, has-cell}
 use Rattle.soup_cells.proofs.pages.Pages.ready.Goals as goal
 use Rattle.soup_cells.proofs.pages.Pages.ready.Goals.{After-self, After-make_own}
+use Rattle.soup_cells.specs.declared.page.TheConstants.{PAGE}
 
 there : (c : After-self) → HasCell page_cells c.self.inside.pages.items c.args.at
 there c =
@@ -14,14 +15,14 @@ there c =
     (subst (λ (s : SoupFields). c.args.at < length s.cells) (sym c.self.view_is) c.requires)
 
 -- no page has other cells
-same : (c : After-make_own) → map page_cells (set c.self.inside.pages.items (c.args.at / 16384) c.make_own.new.self) ≡ map page_cells c.self.inside.pages.items
+same : (c : After-make_own) → map page_cells (set c.self.inside.pages.items (c.args.at / PAGE) c.make_own.new.self) ≡ map page_cells c.self.inside.pages.items
 same c =
-    map-set_same page_cells c.self.inside.pages.items (c.args.at / 16384) c.make_own.new.self c.index_mut.result.now
+    map-set_same page_cells c.self.inside.pages.items (c.args.at / PAGE) c.make_own.new.self c.index_mut.result.now
     (c.make_own.ensures.cells ∙ ap page_cells c.index_mut.ensures.value)
 
 pub index_mut-requires : goal.index_mut-requires
 index_mut-requires c =
-    let h : c.args.at / 16384 < length c.self.inside.pages.items = (there ((goal.at.index_mut-requires c).After-self)).page in
+    let h : c.args.at / PAGE < length c.self.inside.pages.items = (there ((goal.at.index_mut-requires c).After-self)).page in
     search rules
 
 pub invariant_of-self : goal.invariant_of-self
@@ -34,13 +35,13 @@ pub returns-clause-ok : goal.returns-clause-ok
 unfolding is_ready
 returns-clause-ok c =
     on-ok c.make_own.result
-    (own-set is_own c.self.inside.pages.items (c.args.at / 16384) c.make_own.new.self (there ((goal.at.returns-clause-ok c).After-self)).page)
+    (own-set is_own c.self.inside.pages.items (c.args.at / PAGE) c.make_own.new.self (there ((goal.at.returns-clause-ok c).After-self)).page)
     c.make_own.ensures.ok
 
 pub returns-clause-kept : goal.returns-clause-kept
 unfolding is_ready
 returns-clause-kept c p h =
-    own-kept is_own c.self.inside.pages.items (c.args.at / 16384) (p / 16384) c.index_mut.result.now c.make_own.new.self
+    own-kept is_own c.self.inside.pages.items (c.args.at / PAGE) (p / PAGE) c.index_mut.result.now c.make_own.new.self
     (there ((goal.at.returns-clause-kept c).After-self)).page c.index_mut.ensures.value
     (λ (up : is_own c.index_mut.result.now ≡ true). c.make_own.ensures.kept up)
-    (ap (λ (s : SoupFields). get_or s.own (p / 16384) false) c.self.view_is ∙ h)
+    (ap (λ (s : SoupFields). get_or s.own (p / PAGE) false) c.self.view_is ∙ h)

@@ -4,7 +4,7 @@ use Rattle.std.specs.List.{range_with_len}
 use Rattle.std.specs.Prelude.{filter, map}
 use Rattle.mutation_streams.specs.Draws.{draws_of}
 use Rattle.mutation_streams.specs.Entries.{chance_of, is_any}
-use Rattle.mutation_streams.proofs.entry.Entry.of.Given as goal
+use Rattle.mutation_streams.proofs.entry.TapeEntry.of.Given as goal
 
 abbrev pub invariant-loop-instruction : goal.invariant-loop-instruction
 invariant-loop-instruction l =

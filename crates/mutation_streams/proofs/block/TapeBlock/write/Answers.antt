@@ -4,7 +4,7 @@ use Rattle.std.specs.Prelude.{map, slice_index_or}
 use Rattle.std.proofs.lemmas.List.FromFn.{get_or-map-range_with_len, length-map-range_with_len, map-range_with_len_more}
 use Rattle.mutation_streams.specs.Draws.{draws_of}
 use Rattle.mutation_streams.specs.Entries.{BlockFields, EntryFields, entry_of}
-use Rattle.mutation_streams.proofs.block.Block.write.Goals as goal
+use Rattle.mutation_streams.proofs.block.TapeBlock.write.Goals as goal
 
 pub loop-k-preserved : goal.loop-k-preserved
 loop-k-preserved c =

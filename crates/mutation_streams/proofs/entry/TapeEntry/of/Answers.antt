@@ -4,8 +4,8 @@ use Rattle.mutation_streams.specs.declared.entry.Chance.{Chance}
 use Rattle.mutation_streams.specs.Draws.{DrawFields, draws_of}
 use Rattle.mutation_streams.specs.Entries.{chance_of, is_any}
 use Rattle.mutation_streams.proofs.Found.{listed_more}
-use Rattle.mutation_streams.proofs.entry.Entry.of.Goals.{then-is_any+in_ok-push, else-is_any}
-use Rattle.mutation_streams.proofs.entry.Entry.of.Goals as goal
+use Rattle.mutation_streams.proofs.entry.TapeEntry.of.Goals.{then-is_any+in_ok-push, else-is_any}
+use Rattle.mutation_streams.proofs.entry.TapeEntry.of.Goals as goal
 
 pub loop-instruction-preserved : goal.loop-instruction-preserved
 loop-instruction-preserved c =
