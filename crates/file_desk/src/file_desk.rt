@@ -112,5 +112,6 @@ impl<'r, R: Files<File = File>, W: Write> Desk for FileDesk<'r, R, W> {
       counts_now = λ t image text le now. now.0;
       only_now = λ image text at. absurd at;
       leaves_bytes = λ image leaves. absurd leaves;
+      read_is_left = tt;
     } };
 }
