@@ -2,7 +2,7 @@
 
 ghost use Rattle.std.specs.Prelude.{◌<◌, IfOk, IfSome};
 ghost use Rattle.desk_io.specs.Desk.{HasNoFault};
-ghost use Rattle.desk_io.specs.MemDesk.{state_of};
+ghost use Rattle.test_desks.specs.MemDesk.{state_of};
 ghost use Rattle.bank_journal.specs.Bank.{IsAttached};
 
 use crate::ancestor::{SETUP, push_ancestor};
@@ -10,9 +10,9 @@ use crate::calls::{calls_of, desk_over};
 use bank_format::decode_group;
 use bank_journal::{AttachFault, Bank, read_bank};
 use bank_recover::BankFault;
-use desk_io::MemDesk;
 use std::alloc::Global;
 use std::test::Fail;
+use test_desks::MemDesk;
 use tierra_model::Group;
 
 fn group_of(alloc: Global) -> Result<Group, Fail> {

@@ -2,12 +2,12 @@
 
 ghost use Rattle.std.specs.Prelude.{IfOk};
 ghost use Rattle.desk_io.specs.Desk.{HasNoFault};
-ghost use Rattle.desk_io.specs.MemDesk.{state_of};
+ghost use Rattle.test_desks.specs.MemDesk.{state_of};
 
-use desk_io::{Call, MemDesk};
 use std::alloc::{AllocError, Global};
 use std::fmt::Write;
 use std::test::Fail;
+use test_desks::{Call, MemDesk};
 
 /// A desk over a file, whose calls do not fail.
 pub fn desk_over(alloc: Global, image: &[u8]) -> Result<MemDesk, Fail>

@@ -2,11 +2,12 @@
 
 ghost use Rattle.std.specs.Prelude.{◌≤◌, ◌<◌, IfOk, IfSome, length};
 ghost use Rattle.desk_io.specs.Desk.{HasNoFault};
-ghost use Rattle.desk_io.specs.MemDesk.{state_of};
+ghost use Rattle.test_desks.specs.MemDesk.{state_of};
 
-use desk_io::{Call, Desk, DiskFailed, MemDesk};
+use desk_io::{Desk, DiskFailed};
 use std::alloc::Global;
 use std::test::Fail;
+use test_desks::{Call, MemDesk};
 
 // Two bytes after a closed gate at place 1, and then the gate opened.
 fn append<D: Desk>(desk: &mut D) -> Result<(), DiskFailed>

@@ -1,13 +1,13 @@
 //! Files of records over desks in memory.
 
 ghost use Rattle.desk_io.specs.Desk.{HasNoFault};
-ghost use Rattle.desk_io.specs.MemDesk.{state_of};
+ghost use Rattle.test_desks.specs.MemDesk.{state_of};
 
 use crate::calls::{calls_of, desk_over};
-use desk_io::MemDesk;
 use file_journal::{Header, Room, append, open};
 use std::alloc::Global;
 use std::test::Fail;
+use test_desks::MemDesk;
 
 const HEADER: Header = Header {
     title: *b"Tierra test1",

@@ -3,9 +3,10 @@
 ghost use Rattle.std.specs.Prelude.{◌<◌};
 ghost use Rattle.desk_io.specs.Source.{HasNoReadFault};
 
-use desk_io::{MemSource, Piece, Source};
+use desk_io::{Piece, Source};
 use std::alloc::Global;
 use std::test::Fail;
+use test_desks::MemSource;
 
 /// The bytes that a source gives, and the answer that ends them.
 pub fn drain<S: Source>(alloc: Global, source: &mut S) -> Result<(Vec<u8>, Piece), Fail>

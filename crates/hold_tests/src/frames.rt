@@ -2,19 +2,19 @@
 
 ghost use Rattle.std.specs.Prelude.{◌≡◌, ◌<◌, ◌^◌, IfOk, IfSome, OnOk, length};
 ghost use Rattle.desk_io.specs.Desk.{HasNoFault};
-ghost use Rattle.desk_io.specs.MemDesk.{state_of};
+ghost use Rattle.test_desks.specs.MemDesk.{state_of};
 ghost use Rattle.tierra_model.specs.Ranges.{IsCode};
 ghost use Rattle.world_state.specs.Restoring.{IsStateOf};
 ghost use Rattle.soup_checkpoint.specs.Hold.{owner_of};
 ghost use Rattle.soup_checkpoint.specs.Shelf.{IsAttached};
 
 use bank_format::setup_digest;
-use desk_io::{Call, MemDesk};
 use sha2::{Digest, Sha256};
 use soup_checkpoint::{HoldFault, Shelf, ShelfFault};
 use std::alloc::Global;
 use std::fmt::Write;
 use std::test::Fail;
+use test_desks::{Call, MemDesk};
 use tierra_model::{Code, Inoculum, OutOfMemory, SeedList, Settings, Setup, grow_setup};
 use world_core::World;
 

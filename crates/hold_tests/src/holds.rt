@@ -2,13 +2,13 @@
 
 ghost use Rattle.std.specs.Prelude.{◌<◌, ◌≤◌};
 ghost use Rattle.desk_io.specs.Desk.{HasNoFault};
-ghost use Rattle.desk_io.specs.MemDesk.{state_of};
+ghost use Rattle.test_desks.specs.MemDesk.{state_of};
 
-use desk_io::MemDesk;
 use soup_checkpoint::HoldFault;
 use soup_hold::{HoldStop, hold};
 use std::alloc::Global;
 use std::test::Fail;
+use test_desks::MemDesk;
 use test_soups::{ancestor_file, setup_of};
 
 /// A soup file of another creature.

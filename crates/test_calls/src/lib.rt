@@ -3,14 +3,14 @@
 
 ghost use Rattle.std.specs.Prelude.{◌≡◌, ◌<◌, IfOk};
 ghost use Rattle.desk_io.specs.Desk.{HasNoFault};
-ghost use Rattle.desk_io.specs.MemDesk.{state_of};
+ghost use Rattle.test_desks.specs.MemDesk.{state_of};
 
 use crew::{FreeGate, Gate};
-use desk_io::{Call, MemDesk, MemSource};
 use soup_top::{Status, status_text, tierra};
 use std::alloc::{AllocError, Global};
 use std::sync::Wait;
 use std::thread::Threads;
+use test_desks::{Call, MemDesk, MemSource};
 use tierra_model::OutOfMemory;
 
 /// What a call meets besides its words and its source.

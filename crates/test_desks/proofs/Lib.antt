@@ -1,0 +1,5 @@
+mod CrashSteps
+mod DeskSteps
+mod KeptSteps
+mod MomentSteps
+mod NextSteps

@@ -1,0 +1,9 @@
+pub mod CallSteps
+pub mod Calls
+pub mod FitSteps
+pub mod Fits
+pub mod Kept
+pub mod MemDesk
+pub mod MemDeskLaws
+pub mod MemSource
+pub mod Splices
