@@ -153,7 +153,7 @@ fn note_deaths(
     note_each_death(alloc, log, &living, run, quantum)
 }
 
-// Does the same, by looking each of them up in the world.
+// Notes each creature that no longer lives in the world.
 fn note_each_death(
     alloc: Global,
     log: &mut Log,

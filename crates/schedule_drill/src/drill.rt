@@ -67,7 +67,7 @@ pub fn play(
     counted_play::<Brand>(alloc, setup, quanta, moves, Blank::new(1))
 }
 
-// The same, with an account of the instructions that only contracts see.
+// Plays the moves, with an account of the instructions that only contracts see.
 fn counted_play<L: Ledger>(
     alloc: Global,
     setup: Setup,

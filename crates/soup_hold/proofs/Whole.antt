@@ -1,5 +1,5 @@
 -- A whole run, from its file to its report.
-use Rattle.std.proofs.Common.{◌≡◌, ◌∙◌, inl, inr, refl, sym, ap, subst, arith, ℕ, zero, suc, ◌-◌, ◌<◌, List, ◌++◌, length, take, drop, append_assoc, take-append-drop, Option}
+use Rattle.std.proofs.Common.{◌≡◌, ◌∙◌, inl, inr, refl, sym, ap, subst, arith, ℕ, zero, suc, ◌-◌, ◌<◌, ◌≤◌, List, ◌++◌, length, take, drop, append_assoc, take-append-drop, Option}
 use Rattle.std.proofs.Common.{Some, None, Result, Ok}
 use Rattle.std.specs.Prelude.{IfSome, IsSomeAnd}
 use Rattle.std.proofs.lemmas.List.{take_all}
@@ -107,11 +107,11 @@ holds_on setup held first quanta file image zero read holds = (holds (Ok held)).
 holds_on setup held first quanta file image (suc j) read holds = holds
 
 module _ (setup : SetupFields) (held : Option (List ℕ)) (first : World) (n every : ℕ) where
-  abbrev quanta : List ℕ
-  quanta = held_quanta every first.quanta n
+  abbrev run_quanta : List ℕ
+  run_quanta = held_quanta every first.quanta n
 
-  abbrev whole : List ℕ
-  whole = hold_text first n every
+  abbrev run_text : List ℕ
+  run_text = hold_text first n every
 
   -- while the file is attached
   pub beginning_time : (old mid : DeskState) (file : List ℕ) → old.reads ≡ Some file
@@ -123,19 +123,19 @@ module _ (setup : SetupFields) (held : Option (List ℕ)) (first : World) (n eve
 
   -- and after that
   pub going_on_time : (old mid new : DeskState) (file : List ℕ) → first.quanta ≤ n → mid.told ≡ old.told → IsSomeAnd mid.reads (HoldsState setup held)
-      → IfSome mid.reads (λ f. Elapses mid new (IsHolding (owner_of setup) (SaysSame (owner_of setup) f) first quanta whole mid.told))
+      → IfSome mid.reads (λ f. Elapses mid new (IsHolding (owner_of setup) (SaysSame (owner_of setup) f) first run_quanta run_text mid.told))
       → Elapses mid new (IsHoldingOn setup held first n every old.may_leave file old.told)
   going_on_time old mid new file within told_is still time =
       let there = told_now mid.reads (HoldsState setup held) still in
-      let on = at_file mid.reads (λ (f : List ℕ). Elapses mid new (IsHolding (owner_of setup) (SaysSame (owner_of setup) f) first quanta whole mid.told))
+      let on = at_file mid.reads (λ (f : List ℕ). Elapses mid new (IsHolding (owner_of setup) (SaysSame (owner_of setup) f) first run_quanta run_text mid.told))
       there.0 there.1 time in
       let mine = subst (λ (before : Option (List ℕ)).
-      Elapses mid new (IsHolding (owner_of setup) (SaysSame (owner_of setup) there.0) first quanta whole before)) told_is on in
+      Elapses mid new (IsHolding (owner_of setup) (SaysSame (owner_of setup) there.0) first run_quanta run_text before)) told_is on in
       Elapses-weaker (λ image text m.
       inr (
         within,
-        follow_by m (HoldsAfter (owner_of setup) (HoldsState setup held) first quanta)
-            (λ k has. holds_on setup held first quanta there.0 image k there.2 has),
+        follow_by m (HoldsAfter (owner_of setup) (HoldsState setup held) first run_quanta)
+            (λ k has. holds_on setup held first run_quanta there.0 image k there.2 has),
       )) mine
 
 -- what a run goes on from is what the file holds

@@ -132,7 +132,7 @@ module _ (c : Call) (law : IsLawful c.desk) (past : HasMoments c) where
         (λ file. (start : Option ℕ) → HoldsSerial setup start file → AtEachMoment c (IsHeldOn setup n every start c.desk.may_leave file c.desk.told))
         (λ file is time start read.
         at_each (IsHeldOn setup n every start c.desk.may_leave file c.desk.told)
-        (λ image text now. inl ((image, (inl now.0, λ r. (λ says. says, λ says. says))), now.1)) (time start read))
+        (λ image text now. inl ((image, inl now.0, λ r. (λ says. says, λ says. says)), now.1)) (time start read))
         (past.checkpoints setup n every asked);
   }
 

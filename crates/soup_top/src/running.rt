@@ -93,7 +93,7 @@ fn run_with_crew<R: Threads + Wait + Sync, G: Gate + Sync, D: Desk>(
     keep_book(rt, alloc, gate, &start, desk, &mut keeper, book, workers)
 }
 
-// Does the same, and then tells the report.
+// Runs the setup with a crew, takes its groups to the bank as they come, and tells their lines and the report.
 fn keep_and_report<R: Threads + Wait + Sync, G: Gate + Sync, D: Desk>(
     rt: &R,
     alloc: Global,
