@@ -26,7 +26,7 @@ pub trait Ground {
 
     ghost state: { Self → State };
 
-    /// The settings, and the number of the quantum that runs.
+    /// The settings, the number of the quantum that runs, and which world is lent to the ground, if one is.
     ghost frame: { Self → Frame };
 
     /// There is room for this much more: an instruction takes 4, a background flip 1, a death nothing.

@@ -146,7 +146,11 @@ impl<'a> Ground for OnScene<'a> {
 
     ghost state = { λ v. v.run };
 
-    ghost frame = { λ v. record { settings = v.run.start.settings; quantum = v.run.start.quanta + 1 } };
+    ghost frame = { λ v. record {
+      settings = v.run.start.settings;
+      quantum = v.run.start.quanta + 1;
+      lent = 0;
+    } };
 
     ghost Ready = { SceneReady };
 

@@ -14,6 +14,7 @@ use crate::job::Job;
 use crate::on_scene::OnScene;
 use crate::outcome::Outcome;
 use crate::scratch::{Copies, Lists, Room};
+use mutation_streams::Draws;
 use quantum_core::run_slice;
 use slicer_queue::slice_of;
 use std::alloc::Global;
@@ -98,7 +99,9 @@ impl Workspace {
         let copies = mem::replace(&mut self.copies, Copies::new(alloc));
         let mut scene = OnScene::new(job, slice, marks, copies, lists)?;
         let rooms = mem::replace(&mut self.rooms, Vec::new(alloc));
-        match run_slice(&mut scene, settings, job.quantum(), slice, steps) {
+        let quantum = job.quantum();
+        let mut draws = Draws::new(settings, quantum);
+        match run_slice(&mut scene, &mut draws, settings, quantum, slice, steps) {
             Ok(()) => {
                 let (outcome, marks, copies) = scene.into_outcome();
                 *self = Workspace {

@@ -1,9 +1,5 @@
 pub mod Soles
-pub mod Fronts
 pub mod Quanta
-pub mod Instructions
-pub mod Rooms
 pub mod Turns
-pub mod Acts
-pub mod Slices
+pub mod Steps
 pub mod Serials

@@ -1,3 +1,4 @@
 pub mod Turns
+pub mod ReadyLaws
 pub mod Written
 pub mod Onward

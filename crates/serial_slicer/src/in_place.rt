@@ -6,8 +6,8 @@ ghost use Rattle.tierra_model.specs.Quantum.{quantum, slice_of};
 ghost use Rattle.tierra_model.specs.Sound.{IsSound};
 ghost use Rattle.tierra_model.specs.World.{first_of, front};
 
-use crate::slice::run_quantum;
 use crate::sole::Sole;
+use crate::turn::run_quantum;
 use mutation_streams::{NoTape, Tape};
 use std::alloc::Global;
 use std::marker::{Brand, Model};

@@ -2,9 +2,8 @@
 #![tactic(auto)]
 
 mod in_place;
-mod mal;
-mod slice;
 mod sole;
+mod turn;
 
 ghost use Rattle.std.specs.Prelude.{◌≡◌, ◌+◌, ◌<◌, ◌≤◌, IfOk, OnOk};
 ghost use Rattle.tierra_model.specs.declared.limits.TheConstants.{MOST_QUANTA};
@@ -13,8 +12,8 @@ ghost use Rattle.tierra_model.specs.Sound.{IsSound};
 ghost use Rattle.serial_slicer.specs.Onward.{after};
 
 pub use crate::in_place::InPlace;
-use crate::slice::run_quantum;
 use crate::sole::Sole;
+use crate::turn::run_quantum;
 use mutation_streams::NoTape;
 use std::alloc::Global;
 use std::marker::Brand;

@@ -1,20 +1,17 @@
 //! A world that shares no page with a version of its soup.
 
-ghost use Rattle.std.specs.Prelude.{◌≡◌, ◌==◌, ◌<◌, ◌^◌, ◌≤◌, IfOk, IsSome, OnOk, find, length, option_copied, slice_index};
+ghost use Rattle.std.specs.Prelude.{◌≡◌, ◌==◌, ◌<◌, ◌^◌, ◌≤◌, IfOk, IsSome, OnOk, Some, find, length, option_copied, slice_index};
 ghost use Rattle.tierra_model.specs.declared.limits.TheConstants.{MOST_SIZE};
 ghost use Rattle.tierra_model.specs.declared.events.Event.TheVariants as event;
-ghost use Rattle.tierra_model.specs.Draw.{back_flip, word};
-ghost use Rattle.tierra_model.specs.Events.{apply_event, turn_end as turn_end_of};
-ghost use Rattle.tierra_model.specs.Quantum.{flip, world_machine};
+ghost use Rattle.tierra_model.specs.Events.{turn_end as turn_end_of};
 ghost use Rattle.tierra_model.specs.Queue.{place_of_first_other};
 ghost use Rattle.tierra_model.specs.Replay.{CanHappen, RecordFits};
 ghost use Rattle.tierra_model.specs.Room.{is_owned, room_for};
+ghost use Rattle.tierra_model.specs.Step.{flip_bit};
 ghost use Rattle.tierra_model.specs.World.{front, put};
-ghost use Rattle.mutation_streams.specs.Draws.{draws_of};
 ghost use Rattle.world_core.specs.Running.{AllReady, IsRunning};
-ghost use Rattle.serial_slicer.specs.Turns.{IsTurn};
+ghost use Rattle.serial_slicer.specs.Turns.{IsTurn, sole_after};
 
-use mutation_streams::Draws;
 use soup_cells::PAGE;
 use std::alloc::Global;
 use std::marker::Model;
@@ -184,12 +181,21 @@ impl Sole {
 
     // ---- events
 
+    /// The background flip of a cell's bit.
+    pub(crate) fn flip(&mut self, at: u32, bit: u8)
+        requires inside { at < length self.old.world.soup }
+        requires bit { bit < 5 }
+        ensures { let value = flip_bit (slice_index self.old.world.soup at) (Some bit) in
+            self.new ≡ sole_after (event.Write at value) self.old }
+    {
+        let value = flip_bit(self.running.cell(at), bit);
+        self.running.write(at, value);
+    }
+
     /// The creature whose turn it is errs.
     pub(crate) fn err(&mut self)
         requires { IsRunning self.old.world }
-        ensures world { self.new.world ≡ apply_event self.old.world event.Err }
-        ensures own { self.new.own ≡ self.old.own }
-        ensures daughter { self.new.daughter ≡ self.old.daughter }
+        ensures { self.new ≡ sole_after event.Err self.old }
     {
         self.running.err();
     }
@@ -197,7 +203,7 @@ impl Sole {
     /// It makes a good move in the reaper queue.
     pub(crate) fn good(&mut self)
         requires { IsRunning self.old.world }
-        ensures { self.new.world ≡ apply_event self.old.world event.Good }
+        ensures { self.new ≡ sole_after event.Good self.old }
     {
         self.running.good();
     }
@@ -206,10 +212,11 @@ impl Sole {
     pub(crate) fn give_up(&mut self) -> Result<(), OutOfMemory>
         requires within { IsRunning self.old.world }
         requires can { CanHappen self.old.world event.GiveUp }
-        ensures { OnOk result (self.new.world ≡ apply_event self.old.world event.GiveUp) }
+        ensures { OnOk result (self.new ≡ sole_after event.GiveUp self.old) }
     {
         self.running.reserve(0, 1)?;
         self.running.give_up();
+        self.daughter = None;
         Ok(())
     }
 
@@ -217,10 +224,11 @@ impl Sole {
     pub(crate) fn take(&mut self, block: Block) -> Result<(), OutOfMemory>
         requires within { IsRunning self.old.world }
         requires can { CanHappen self.old.world (event.Mal block.at block.size) }
-        ensures { OnOk result (self.new.world ≡ apply_event self.old.world (event.Mal block.at block.size)) }
+        ensures { OnOk result (self.new ≡ sole_after (event.Mal block.at block.size) self.old) }
     {
         self.running.reserve(0, 1)?;
         self.running.mal(block);
+        self.daughter = Some(block);
         Ok(())
     }
 
@@ -228,42 +236,24 @@ impl Sole {
     pub(crate) fn reap(&mut self, place: u32) -> Result<(), OutOfMemory>
         requires within { IsRunning self.old.world }
         requires can { CanHappen self.old.world (event.Reap place) }
-        ensures { OnOk result (self.new.world ≡ apply_event self.old.world (event.Reap place)) }
+        ensures { OnOk result (self.new ≡ sole_after (event.Reap place) self.old) }
     {
         self.running.reserve(0, 2)?;
         self.running.reap(place);
         Ok(())
     }
 
-    /// Its daughter is born.
-    pub(crate) fn bear(&mut self, alloc: Global) -> Result<(), OutOfMemory>
+    /// Its daughter is born, at the cost of `ran` and `moved`.
+    pub(crate) fn bear(&mut self, alloc: Global, ran: u64, moved: u64) -> Result<(), OutOfMemory>
         requires within { IsRunning self.old.world }
-        requires held { IsSome (front self.old.world).daughter }
-        requires ran { 1 ≤ (front self.old.world).ran }
-        ensures { OnOk result (self.new.world
-            ≡ apply_event self.old.world (event.Divide (front self.old.world).ran (front self.old.world).moved)) }
+        requires can { CanHappen self.old.world (event.Divide ran moved) }
+        ensures { OnOk result (self.new ≡ sole_after (event.Divide ran moved) self.old) }
     {
         let code = self.running.daughter_code(alloc)?;
         self.running.reserve(1, 0)?;
-        let mother = *self.running.front();
-        self.running.divide(mother.ran, mother.moved, code);
+        self.running.divide(ran, moved, code);
+        self.daughter = None;
         Ok(())
-    }
-
-    /// The background flip.
-    pub(crate) fn flip(&mut self, draws: &mut Draws)
-        requires within { IsRunning self.old.world }
-        requires draws { draws.old ≡ draws_of self.old.world.settings (self.old.world.quanta + 1) }
-        ensures draws { draws.new ≡ draws.old }
-        ensures world { self.new.world ≡ flip world_machine self.old.world.settings
-            (back_flip self.old.world.settings.back_rate
-            (word self.old.world.settings.seed (self.old.world.quanta + 1)) self.old.world.settings.soup_size)
-            self.old.world }
-    {
-        if let Some((at, bit)) = draws.back() {
-            let value = flip_bit(self.running.cell(at), bit);
-            self.running.write(at, value);
-        }
     }
 
     // ---- turns
@@ -281,26 +271,18 @@ impl Sole {
         creature
     }
 
-    /// The record of the creature whose turn it is, as it is now.
-    pub(crate) fn put(&mut self, after: Creature)
+    /// The creature, which has this record now, goes to the back of the slicer queue, and the quantum is counted.
+    pub(crate) fn end_turn(&mut self, after: Creature)
         requires within { IsRunning self.old.world }
         requires fits { RecordFits (front self.old.world) after }
-        ensures { self.new.world ≡ put after self.old.world }
+        ensures { self.new.world ≡ turn_end_of (put after self.old.world) }
     {
         self.running.put(after);
-    }
-
-    /// The creature goes to the back of the slicer queue, and the quantum is counted.
-    pub(crate) fn end_turn(&mut self)
-        requires { IsRunning self.old.world }
-        ensures { self.new.world ≡ turn_end_of self.old.world }
-    {
         self.running.turn_end();
     }
 }
 
-ghost use Rattle.std.specs.Prelude.{Some, ◌+◌};
-ghost use Rattle.tierra_model.specs.Step.{flip_bit};
+ghost use Rattle.std.specs.Prelude.{◌+◌};
 
 // Makes all cells of a world ready.
 fn make_ready(running: &mut Running) -> Result<(), OutOfMemory>

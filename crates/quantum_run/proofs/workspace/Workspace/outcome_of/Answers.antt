@@ -12,8 +12,8 @@ into_outcome-outcome-requires-clause-run g c =
     let scene : Scene = c.args.job.now in
     let y : SceneRun = c.run_slice.new.ground.run in
     let is : y ≡ run_in_scene scene =
-    ran_in_scene scene c.settings-settings.result.now c.quantum.result c.slice_of-slice.result c.front.result.now c.in_ok-scene.scene.run y
-    c.settings-settings.ensures.settings c.quantum.ensures c.front.ensures c.slice_of-slice.ensures c.in_ok-scene.ensures.run c.in-Ok.ensures.state in
+    ran_in_scene scene c.settings-settings.result.now c.quantum-quantum.result c.slice_of-slice.result c.front.result.now c.in_ok-scene.scene.run y
+    c.settings-settings.ensures.settings c.quantum-quantum.ensures c.front.ensures c.slice_of-slice.ensures c.in_ok-scene.ensures.run c.in-Ok.ensures.state in
     is ∙ ap run_in_scene (sym (ap (λ (x : SceneRun). x.start) is ∙ start_is scene))
 
 pub invariant_of-drop : goal.invariant_of-drop
@@ -25,7 +25,7 @@ returns-clause-outcome g c =
     let scene : Scene = c.args.job.now in
     let y : SceneRun = c.run_slice.new.ground.run in
     let is : y ≡ run_in_scene scene =
-    ran_in_scene scene c.settings-settings.result.now c.quantum.result c.slice_of-slice.result c.front.result.now c.in_ok-scene.scene.run y
-    c.settings-settings.ensures.settings c.quantum.ensures c.front.ensures c.slice_of-slice.ensures c.in_ok-scene.ensures.run c.in-Ok.ensures.state in
+    ran_in_scene scene c.settings-settings.result.now c.quantum-quantum.result c.slice_of-slice.result c.front.result.now c.in_ok-scene.scene.run y
+    c.settings-settings.ensures.settings c.quantum-quantum.ensures c.front.ensures c.slice_of-slice.ensures c.in_ok-scene.ensures.run c.in-Ok.ensures.state in
     subst (λ (t : Scene). IsOutcome t c.into_outcome-outcome.result.0)
     (ap (λ (x : SceneRun). x.start) is ∙ start_is scene) c.into_outcome-outcome.ensures.outcome
