@@ -1,9 +1,13 @@
-use Rattle.std.proofs.Common.{◌≡◌, sym, subst, Result, IfErr, OnOk}
+use Rattle.std.proofs.Common.{rules, ◌≡◌, sym, subst, Result, IfErr, OnOk}
 use Rattle.desk_io.specs.Desk.{DeskState}
 use Rattle.soup_top.specs.declared.asking.Task.{Task}
 use Rattle.soup_top.specs.declared.stop.RunStop.{RunStop}
 use Rattle.soup_top.specs.Ending.{HasMomentsFor, IsDoneFor, IsStoppedFor}
+use Rattle.soup_top.specs.declared.asking.Task.TheVariants as task
+use Rattle.soup_top.proofs.ToldMoments.{told_at_once}
+use Rattle.soup_top.proofs.top.carry_out.Given.{Over}
 use Rattle.soup_top.proofs.top.carry_out.Goals as goal
+use Rattle.soup_top.proofs.top.carry_out.Goals.{After-tell}
 
 -- what one task leaves is what the other leaves, which it is
 done_as : (t other : Task) (old new : DeskState) (r : Result (Unit {0}) RunStop) → t ≡ other → OnOk r (IsDoneFor other old new)
@@ -28,6 +32,26 @@ returns-in-Run-clause-stopped g c =
 pub returns-in-Run-clause-moments : goal.returns-in-Run-clause-moments
 returns-in-Run-clause-moments g c =
     moments_as _ _ (g.D.Desk.state c.args.desk.now) (g.D.Desk.state c.run.new.desk) c.in-Run.is c.run.ensures.moments
+
+-- the text of a source is told, and no disk call is made
+text_moments : (g : Over) (c : After-tell g) → HasMomentsFor c.args.task (g.D.Desk.state c.args.desk.now) (g.D.Desk.state c.tell.new.self)
+text_moments g c =
+    let told : c.deref.result.now ≡ c.in-Tell.text = search rules in
+    moments_as c.args.task (task.Tell c.in-Tell.text) (g.D.Desk.state c.args.desk.now) (g.D.Desk.state c.tell.new.self) c.in-Tell.is (record {
+      crash = tt;
+      kept_up = tt;
+      quiet_run = tt;
+      checkpoints = tt;
+      quiet_hold = tt;
+      telling = told_at_once (task.Tell c.in-Tell.text) (g.D.Desk.state c.args.desk.now) (g.D.Desk.state c.tell.new.self) c.deref.result.now
+          c.tell.ensures.call.tells told;
+    })
+
+pub returns-in_err-tell-in-Tell-clause-moments : goal.returns-in_err-tell-in-Tell-clause-moments
+returns-in_err-tell-in-Tell-clause-moments g c = text_moments g (goal.at.returns-in_err-tell-in-Tell-clause-moments g c).After-tell
+
+pub returns-in_ok-tell-in-Tell-clause-moments : goal.returns-in_ok-tell-in-Tell-clause-moments
+returns-in_ok-tell-in-Tell-clause-moments g c = text_moments g (goal.at.returns-in_ok-tell-in-Tell-clause-moments g c).After-tell
 
 pub returns-in-Bank-clause-done : goal.returns-in-Bank-clause-done
 returns-in-Bank-clause-done g c =

@@ -1,4 +1,4 @@
-use Rattle.std.proofs.Common.{List, ℕ}
+use Rattle.std.proofs.Common.{List, Some, ℕ}
 use Rattle.bank_journal.proofs.Times.{each_file}
 use Rattle.desk_io.specs.Desk.{Elapses}
 use Rattle.soup_top.specs.declared.asking.Task.TheVariants as task
@@ -18,7 +18,7 @@ telling g c =
     each_file old.reads (λ (file : List ℕ). HasBank file c.in_ok-groups.groups) (λ (file : List ℕ). IsTextFor (task.Probe c.args.quanta c.args.workers) (Some file) c.in_ok-text.text)
     (λ file there has. (c.in_ok-groups.groups, has, c.in_ok-text.ensures)) c.in_ok-groups.ensures.groups in
     told_quietly (task.Probe c.args.quanta c.args.workers) old (g.D.Desk.state c.read_bank.new.desk) (g.D.Desk.state c.tell_some.new.desk) c.in_ok-text.text
-    c.read_bank.ensures.uses c.read_bank.ensures.untouched c.tell_some.ensures.tells is
+    c.read_bank.ensures.uses c.read_bank.ensures.untouched c.tell_some.ensures.call.tells is
 
 pub returns-in_err-tell_some-clause-telling : goal.returns-in_err-tell_some-clause-telling
 returns-in_err-tell_some-clause-telling g c = telling g (goal.at.returns-in_err-tell_some-clause-telling g c).After-tell_some
