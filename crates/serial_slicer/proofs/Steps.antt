@@ -1,7 +1,6 @@
 -- The step of an instruction, by a record that is kept apart from the world.
-use Rattle.std.proofs.Common.{◌≡◌, ℕ, ◌+◌, ◌<◌, ◌≤◌, Bool, refl, sym, ◌∙◌, ap, subst, arith, length}
+use Rattle.std.proofs.Common.{◌≡◌, ℕ, ◌+◌, ◌<◌, Bool, refl, sym, ◌∙◌, ap, subst, arith, length}
 use Rattle.std.specs.Prelude.{slice_index, slice_set, ◌||◌}
-use Rattle.tierra_model.specs.declared.limits.TheConstants.{COUNT_END}
 use Rattle.tierra_model.specs.declared.creatures.Creature.{Creature}
 use Rattle.tierra_model.specs.declared.events.Act.{Act}
 use Rattle.tierra_model.specs.declared.events.Act.TheVariants as act
@@ -14,7 +13,7 @@ use Rattle.tierra_model.specs.Look.{Answer, Look, LookAt, answer, pass}
 use Rattle.tierra_model.specs.Quantum.{walk, world_machine}
 use Rattle.tierra_model.specs.Step.{Outcome, step}
 use Rattle.tierra_model.specs.World.{World, first_of, front, put}
-use Rattle.tierra_model.proofs.Commutes.{HasFront, commutes, front-id, front-put, put-put}
+use Rattle.tierra_model.proofs.Commutes.{HasFront, commutes, put-put}
 use Rattle.tierra_model.proofs.Records.{CanDo, Keeps, always-walk, step_keeps}
 use Rattle.tierra_model.proofs.Shares.{Shares}
 use Rattle.tierra_model.proofs.WithinRun.{cells_below}

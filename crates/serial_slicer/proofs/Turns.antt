@@ -1,6 +1,6 @@
 -- What holds in a turn, and what an event leaves of it.
 use Rattle.std.proofs.Common.{◌≡◌, ℕ, ◌+◌, ◌-◌, ◌*◌, ◌/◌, ◌<◌, ◌≤◌, Bool, true, false, List, [], ◌∷◌, refl, sym, ◌∙◌, ap, subst, arith, length}
-use Rattle.std.specs.Prelude.{None, Option, Some, IsSome, if◌then◌else◌, max, min, nat_lt}
+use Rattle.std.specs.Prelude.{None, Some, IsSome, if◌then◌else◌, max, min, nat_lt}
 use Rattle.std.proofs.lemmas.Bool.Decides.{nat_tests}
 use Rattle.tierra_model.specs.declared.limits.TheConstants.{COUNT_END, MOST_QUANTA, MOST_SIZE}
 use Rattle.tierra_model.specs.declared.creatures.Creature.{Creature}
@@ -121,7 +121,8 @@ module _ (c : Creature) (v : SoleFields) (n : ℕ) (r : IsReady c v n) where
       let id = (front w).id in
       let count : number_of_others id w.reaper + 1 ≡ length w.reaper =
       omega (arith, others_and_own id w.reaper, runs.reaper id, runs.once id, front_here w runs) in
-      (omega (arith, all, count), let e : k - 1 ≡ number_of_others id w.reaper = omega (arith, all, count) in e ∙ ap (λ (j : ℕ). number_of_others j w.reaper) same_id)
+      (omega (arith, all, count), let e : k - 1 ≡ number_of_others id w.reaper =
+          omega (arith, all, count) in e ∙ ap (λ (j : ℕ). number_of_others j w.reaper) same_id)
 
   pub same_victim : place_of_first_other (front w).id w.reaper ≡ place_of_first_other (front (put c w)).id w.reaper
   same_victim = ap (λ (j : ℕ). place_of_first_other j w.reaper) same_id

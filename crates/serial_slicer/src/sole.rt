@@ -1,6 +1,6 @@
 //! A world that shares no page with a version of its soup.
 
-ghost use Rattle.std.specs.Prelude.{◌≡◌, ◌==◌, ◌<◌, ◌^◌, ◌≤◌, IfOk, IsSome, OnOk, Some, find, length, option_copied, slice_index};
+ghost use Rattle.std.specs.Prelude.{◌≡◌, ◌==◌, ◌<◌, ◌^◌, ◌≤◌, IfOk, OnOk, Some, find, length, option_copied, slice_index};
 ghost use Rattle.tierra_model.specs.declared.limits.TheConstants.{MOST_SIZE};
 ghost use Rattle.tierra_model.specs.declared.events.Event.TheVariants as event;
 ghost use Rattle.tierra_model.specs.Events.{turn_end as turn_end_of};

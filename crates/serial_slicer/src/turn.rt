@@ -45,7 +45,7 @@ pub(crate) fn run_quantum<T: Tape, L: Ledger>(
     Ok(())
 }
 
-/// A world in the middle of a turn. The record of the creature that runs is kept apart from the world until the turn ends.
+/// A world in the middle of a turn. Until the turn ends, the record of the creature that runs is kept apart from it.
 #[derive(Drop)]
 struct Turn<'s> {
     alloc: Global,

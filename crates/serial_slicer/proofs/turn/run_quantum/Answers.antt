@@ -1,7 +1,7 @@
 use Rattle.std.proofs.Common.{◌≡◌, ◌+◌, ◌*◌, ◌≤◌, ℕ, sym, ◌∙◌, ap, subst, arith}
 use Rattle.tierra_model.specs.declared.creatures.Creature.{Creature}
 use Rattle.tierra_model.specs.Quantum.{run, slice_of, world_machine}
-use Rattle.tierra_model.specs.World.{World, front}
+use Rattle.tierra_model.specs.World.{front}
 use Rattle.world_core.proofs.Within.{running-sound}
 use Rattle.quantum_core.specs.Frame.{Frame}
 use Rattle.serial_slicer.specs.Turns.{SoleFields}

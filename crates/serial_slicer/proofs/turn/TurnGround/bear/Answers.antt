@@ -1,5 +1,4 @@
 use Rattle.std.proofs.Common.{refl, sym, ◌∙◌, ap, arith}
-use Rattle.std.specs.Prelude.{◌≤◌}
 use Rattle.std.proofs.lemmas.Result.{on_ok_weaker}
 use Rattle.tierra_model.specs.declared.creatures.Creature.{Creature}
 use Rattle.tierra_model.specs.declared.events.Event.TheVariants as event
@@ -15,7 +14,8 @@ pub bear-requires-2-clause-within : goal.bear-requires-2-clause-within
 bear-requires-2-clause-within c = let t = c.args.self.now in runs t.creature t.sole.now 2 c.requires.ready
 
 pub bear-requires-2-clause-can : goal.bear-requires-2-clause-can
-bear-requires-2-clause-can c = let t = c.args.self.now in can_bear t.creature t.sole.now 2 c.requires.ready t.creature.ran t.creature.moved c.requires.held refl c.requires.ran
+bear-requires-2-clause-can c = let t = c.args.self.now in
+    can_bear t.creature t.sole.now 2 c.requires.ready t.creature.ran t.creature.moved c.requires.held refl c.requires.ran
 
 pub returns-clause-state : goal.returns-clause-state
 returns-clause-state c =
@@ -28,9 +28,12 @@ returns-clause-state c =
 pub returns-clause-frame : goal.returns-clause-frame
 returns-clause-frame c =
     let t = c.args.self.now in
-    on_ok_weaker c.bear-2.result (λ done. frame_after (event.Divide t.creature.ran t.creature.moved) t.sole.now c.bear-2.new.self t.sole.ghost_name done) c.bear-2.ensures
+    on_ok_weaker c.bear-2.result (λ done. frame_after (event.Divide t.creature.ran t.creature.moved) t.sole.now c.bear-2.new.self t.sole.ghost_name done)
+        c.bear-2.ensures
 
 pub returns-clause-ready : goal.returns-clause-ready
 returns-clause-ready c =
     let t = c.args.self.now in
-    on_ok_weaker c.bear-2.result (λ done. λ n r. ready_after (event.Divide t.creature.ran t.creature.moved) t.creature c.bear.new.self t.sole.now c.bear-2.new.self n 2 r (can_bear t.creature t.sole.now 2 c.requires.ready t.creature.ran t.creature.moved c.requires.held refl c.requires.ran) (omega arith) (omega arith) c.bear.ensures done) c.bear-2.ensures
+    on_ok_weaker c.bear-2.result (λ done. λ n r. ready_after (event.Divide t.creature.ran t.creature.moved) t.creature c.bear.new.self t.sole.now
+        c.bear-2.new.self n 2 r (can_bear t.creature t.sole.now 2 c.requires.ready t.creature.ran t.creature.moved c.requires.held refl c.requires.ran)
+        (omega arith) (omega arith) c.bear.ensures done) c.bear-2.ensures

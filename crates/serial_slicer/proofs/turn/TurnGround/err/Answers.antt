@@ -1,5 +1,4 @@
-use Rattle.std.proofs.Common.{refl, arith}
-use Rattle.std.specs.Prelude.{◌≤◌}
+use Rattle.std.proofs.Common.{arith}
 use Rattle.tierra_model.specs.declared.events.Event.TheVariants as event
 use Rattle.serial_slicer.proofs.Turns.{few, frame_after, ready_after, runs, state_after}
 use Rattle.serial_slicer.proofs.turn.TurnGround.err.Goals as goal

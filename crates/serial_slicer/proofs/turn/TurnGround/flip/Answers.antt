@@ -1,5 +1,5 @@
 use Rattle.std.proofs.Common.{refl, arith}
-use Rattle.std.specs.Prelude.{Some, slice_index, ◌<◌, ◌≤◌}
+use Rattle.std.specs.Prelude.{Some, slice_index}
 use Rattle.tierra_model.specs.declared.events.Event.TheVariants as event
 use Rattle.tierra_model.specs.Step.{flip_bit}
 use Rattle.tierra_model.proofs.Records.{flipped_below}

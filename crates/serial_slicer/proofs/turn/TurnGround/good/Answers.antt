@@ -1,5 +1,4 @@
 use Rattle.std.proofs.Common.{refl, sym, ◌∙◌, arith}
-use Rattle.std.specs.Prelude.{◌≤◌}
 use Rattle.tierra_model.specs.declared.events.Event.TheVariants as event
 use Rattle.serial_slicer.proofs.Turns.{frame_after, now, ready_after, runs, state_after}
 use Rattle.serial_slicer.proofs.turn.TurnGround.good.Goals as goal
