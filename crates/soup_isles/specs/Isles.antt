@@ -13,7 +13,7 @@ use Rattle.tierra_model.specs.Room.{first_fit}
 use Rattle.tierra_model.specs.Serial.{empty_world}
 use Rattle.tierra_model.specs.Setups.{SetupFields, block_of, default_settings, setup_for}
 use Rattle.tierra_model.specs.World.{World, front}
-use Rattle.world_state.specs.StateBytes.{eight}
+use Rattle.byte_fields.specs.Writing.{eight}
 
 -- ---- seeds
 

@@ -3,7 +3,8 @@
 ghost use Rattle.std.specs.Int.{w32};
 ghost use Rattle.std.specs.Prelude.{◌<◌, ◌^◌, All, FitsSigned};
 ghost use Rattle.tierra_model.specs.Sound.{IsSound};
-ghost use Rattle.world_state.specs.Restoring.{FitsTypes, HasLongNumbers, HasWords, IsLongEffort};
+ghost use Rattle.byte_fields.specs.Writing.{IsLongEffort};
+ghost use Rattle.world_state.specs.Restoring.{FitsTypes, HasLongNumbers, HasWords};
 ghost use Rattle.world_state.specs.Savings.{savings_of};
 
 use crate::running::Running;

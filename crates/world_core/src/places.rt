@@ -12,6 +12,9 @@ const NEAR: usize = 24;
 
 /// A guess at the place of each creature's record among those of the living. Nothing is promised of the answer: the
 /// caller checks whether the record is there.
+///
+/// The records are in the order of birth, so each only moves down. `Hints` of `reaper_queue` are guesses too, but at places
+/// of that queue, where creatures also move up and change places.
 #[derive(Drop)]
 pub(crate) struct Places {
     // The birth numbers in the order of the records; they lie closer together in memory than the records.

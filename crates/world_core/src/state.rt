@@ -7,16 +7,20 @@ ghost use Rattle.tierra_model.specs.Living.{one_of};
 ghost use Rattle.tierra_model.specs.Ranges.{IsCode};
 ghost use Rattle.tierra_model.specs.Sound.{IsSound, ParentsBelow};
 ghost use Rattle.tierra_model.specs.World.{genotype_at};
+ghost use Rattle.byte_fields.specs.Writing.{eight};
 ghost use Rattle.world_state.specs.Restoring.{AreBytesOf};
 ghost use Rattle.world_state.specs.Savings.{saving_of, savings_of};
-ghost use Rattle.world_state.specs.StateBytes.{block_bytes, body_bytes, count_bytes, counts_bytes, creature_bytes, daughter_bytes, effort_bytes, eight, four, genotype_bytes, genotypes_bytes, living_bytes, parent_bytes, processor_bytes, reaper_bytes, register_bytes, registers_bytes, saving_bytes, savings_bytes, soup_bytes, stack_bytes, state_bytes};
+ghost use Rattle.world_state.specs.StateBytes.{block_bytes, body_bytes, count_bytes, counts_bytes, creature_bytes, daughter_bytes, genotype_bytes, genotypes_bytes, living_bytes, parent_bytes, processor_bytes, reaper_bytes, register_bytes, registers_bytes, saving_bytes, savings_bytes, soup_bytes, stack_bytes, state_bytes};
 
 use crate::fitting::world_fits;
 use crate::running::Running;
 use crate::world::World;
+use byte_fields::{
+    push_effort, push_efforts, push_eight, push_eights, push_four, push_fours, push_sized,
+};
 use genotyper::Genotypes;
 use std::alloc::Global;
-use tierra_model::{Block, Code, Creature, Effort, OutOfMemory};
+use tierra_model::{Block, Code, Creature, OutOfMemory};
 use world_state::Saving;
 
 impl World {
@@ -78,6 +82,13 @@ fn push_counts(out: &mut Vec<u8>, running: &Running) -> Result<(), OutOfMemory>
         running.deaths(),
         running.next_birth(),
     )
+}
+
+fn push_two_pairs(out: &mut Vec<u8>, a: u64, b: u64, c: u64, d: u64) -> Result<(), OutOfMemory>
+    ensures { OnOk result (out.new.items ≡ out.old.items ++ ((eight a ++ eight b) ++ (eight c ++ eight d))) }
+{
+    push_eights(out, a, b)?;
+    push_eights(out, c, d)
 }
 
 // ---- the living
@@ -233,20 +244,12 @@ fn push_genotype(out: &mut Vec<u8>, genotypes: &Genotypes, number: u64) -> Resul
     ensures { OnOk result (out.new.items
         ≡ out.old.items ++ genotype_bytes (genotype_at genotypes.now.genotypes number)) }
 {
-    push_code(out, genotypes.code_of(number))?;
+    push_sized(out, &genotypes.code_of(number).items)?;
     push_parent(out, genotypes.parent_of(number))?;
     push_eight(out, genotypes.first_quantum(number))?;
     push_eight(out, genotypes.total(number))?;
     push_effort(out, genotypes.first_effort(number))?;
     push_effort(out, genotypes.second_effort(number))
-}
-
-fn push_code(out: &mut Vec<u8>, code: &Code) -> Result<(), OutOfMemory>
-    requires { length code.now < 2 ^ 32 }
-    ensures { OnOk result (out.new.items ≡ out.old.items ++ (four (length code.now) ++ code.now)) }
-{
-    push_four(out, code.items.len() as u32)?;
-    out.extend_from_slice(&code.items)
 }
 
 #[tactic(auto, unfolding(world_state::specs::StateBytes::parent_bytes))]
@@ -285,28 +288,7 @@ fn push_saving(out: &mut Vec<u8>, saving: Saving) -> Result<(), OutOfMemory>
     push_efforts(out, saving.first_effort, saving.second_effort)
 }
 
-#[tactic(auto, unfolding(world_state::specs::StateBytes::effort_bytes))]
-fn push_effort(out: &mut Vec<u8>, effort: Option<Effort>) -> Result<(), OutOfMemory>
-    ensures { OnOk result (out.new.items ≡ out.old.items ++ effort_bytes effort) }
-{
-    match effort {
-        Some(effort) => push_eights(out, effort.ran, effort.moved),
-        None => push_eights(out, 0, 0),
-    }
-}
-
-fn push_efforts(
-    out: &mut Vec<u8>,
-    first: Option<Effort>,
-    second: Option<Effort>,
-) -> Result<(), OutOfMemory>
-    ensures { OnOk result (out.new.items ≡ out.old.items ++ (effort_bytes first ++ effort_bytes second)) }
-{
-    push_effort(out, first)?;
-    push_effort(out, second)
-}
-
-// ---- numbers
+// ---- registers
 
 #[tactic(auto, unfolding(world_state::specs::StateBytes::register_bytes))]
 fn push_register(out: &mut Vec<u8>, value: i32) -> Result<(), OutOfMemory>
@@ -320,37 +302,4 @@ fn push_two_registers(out: &mut Vec<u8>, first: i32, second: i32) -> Result<(), 
 {
     push_register(out, first)?;
     push_register(out, second)
-}
-
-fn push_four(out: &mut Vec<u8>, number: u32) -> Result<(), OutOfMemory>
-    ensures { OnOk result (out.new.items ≡ out.old.items ++ four number) }
-{
-    out.extend_from_slice(&number.to_be_bytes())
-}
-
-fn push_fours(out: &mut Vec<u8>, first: u32, second: u32) -> Result<(), OutOfMemory>
-    ensures { OnOk result (out.new.items ≡ out.old.items ++ (four first ++ four second)) }
-{
-    push_four(out, first)?;
-    push_four(out, second)
-}
-
-fn push_eight(out: &mut Vec<u8>, number: u64) -> Result<(), OutOfMemory>
-    ensures { OnOk result (out.new.items ≡ out.old.items ++ eight number) }
-{
-    out.extend_from_slice(&number.to_be_bytes())
-}
-
-fn push_eights(out: &mut Vec<u8>, first: u64, second: u64) -> Result<(), OutOfMemory>
-    ensures { OnOk result (out.new.items ≡ out.old.items ++ (eight first ++ eight second)) }
-{
-    push_eight(out, first)?;
-    push_eight(out, second)
-}
-
-fn push_two_pairs(out: &mut Vec<u8>, a: u64, b: u64, c: u64, d: u64) -> Result<(), OutOfMemory>
-    ensures { OnOk result (out.new.items ≡ out.old.items ++ ((eight a ++ eight b) ++ (eight c ++ eight d))) }
-{
-    push_eights(out, a, b)?;
-    push_eights(out, c, d)
 }

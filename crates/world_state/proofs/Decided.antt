@@ -11,6 +11,7 @@ use Rattle.std.proofs.lemmas.List.Elements.{All-head, All-tail}
 use Rattle.std.proofs.lemmas.List.Sorted.{IsNonDecreasingBy-drop, IsNonDecreasingBy-insert, IsNonDecreasingBy-short, IsPermutation-cons, IsPermutation-insert}
 use Rattle.std.proofs.lemmas.List.Sorted.{IsPermutation-refl, IsPermutation-trans}
 use Rattle.std.proofs.lemmas.Slice.Eq.{bytes_eq-Decides}
+use Rattle.byte_fields.specs.Exact.{IsBytes}
 use Rattle.tierra_model.specs.declared.limits.TheConstants.{MOST_QUANTA}
 use Rattle.tierra_model.specs.declared.creatures.Block.{Block}
 use Rattle.tierra_model.specs.declared.creatures.Creature.{Creature}
@@ -20,7 +21,7 @@ use Rattle.tierra_model.specs.Living.{ids_of}
 use Rattle.tierra_model.specs.Sound.{IsSound, Ordered, count_limit, numbers_of, times_coded}
 use Rattle.tierra_model.specs.World.{Genotype, World, genotype_at}
 use Rattle.world_state.specs.declared.fields.Found.{Found}
-use Rattle.world_state.specs.declared.fields.Stop.TheVariants as stop
+use Rattle.byte_fields.specs.declared.stop.Stop.TheVariants as stop
 use Rattle.world_state.specs.declared.saving.Saving.{Saving}
 use Rattle.world_state.specs.Checks.{apart_step, are_found, are_living, are_saved, blocks_in, is_code_number, passes, size_step}
 use Rattle.world_state.specs.Reading.{StateParts, genotypes_of, state_at}
@@ -34,7 +35,7 @@ use Rattle.world_state.proofs.Joined.{found-decide, living-decide, ordered-lower
 use Rattle.world_state.proofs.Joined.{sound-parts}
 use Rattle.world_state.proofs.LineOrder.{sorted-is, times-permuted}
 use Rattle.world_state.proofs.Told.{draft_is, made_of, none_told}
-use Rattle.world_state.proofs.TypesFit.{AreBytes, types-fit}
+use Rattle.world_state.proofs.TypesFit.{types-fit}
 
 -- it holds, or it does not
 abbrev pub OrNot : Type 0 → Type 0
@@ -308,7 +309,7 @@ module _ (chosen : Settings) (parts : StateParts) (living : List Creature) (move
         ]
       ]
 
-  world-or-not : (bytes rest : List ℕ) → AreBytes bytes → state_at bytes ≡ Some (parts, rest) → OrNot (AreBytesOf chosen bytes told)
+  world-or-not : (bytes rest : List ℕ) → IsBytes bytes → state_at bytes ≡ Some (parts, rest) → OrNot (AreBytesOf chosen bytes told)
   world-or-not bytes rest ok read =
       by-or-not (IsSound told × (state_bytes told ≡ bytes)) (AreBytesOf chosen bytes told)
       (λ h. record {
@@ -319,11 +320,11 @@ module _ (chosen : Settings) (parts : StateParts) (living : List Creature) (move
       })
       (λ a. (a.sound, a.bytes)) (both-or-not _ _ sound-or-not (list-or-not (state_bytes told) bytes))
 
-pub state-or-not : (chosen : Settings) (bytes : List ℕ) → AreBytes bytes → OrNot (IsStateOf chosen bytes)
+pub state-or-not : (chosen : Settings) (bytes : List ℕ) → IsBytes bytes → OrNot (IsStateOf chosen bytes)
 state-or-not chosen bytes ok = read (state_at bytes) refl
   where
     read : (o : Option (StateParts × List ℕ)) → state_at bytes ≡ o → OrNot (IsStateOf chosen bytes)
-    read None is = inr (λ s. none_told chosen bytes stop.NoWorld is refl s.0 s.1)
+    read None is = inr (λ s. none_told chosen bytes stop.Malformed is refl s.0 s.1)
     read (Some (parts, rest)) is =
         let s = sorted (λ (c : Creature). c.id) parts.1.1.0 in
         let w = made_of chosen parts s.list (ids_of parts.1.1.0) in

@@ -1,8 +1,6 @@
 pub mod BirthNumbers
 pub mod SlicerLength
-pub mod FieldLoop
-pub mod ReadBack
-pub mod FieldsBack
+pub mod FieldsRead
 pub mod LineOrder
 pub mod Told
 pub mod Passing

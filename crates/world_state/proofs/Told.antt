@@ -9,7 +9,6 @@ use Rattle.std.proofs.lemmas.List.Folds.{flat_map-map}
 use Rattle.tierra_model.specs.declared.limits.TheConstants.{COUNT_END, MOST_QUANTA, MOST_SIZE}
 use Rattle.tierra_model.specs.declared.creatures.Block.{Block}
 use Rattle.tierra_model.specs.declared.creatures.Creature.{Creature}
-use Rattle.tierra_model.specs.declared.creatures.Effort.{Effort}
 use Rattle.tierra_model.specs.declared.parameters.Settings.{Settings}
 use Rattle.tierra_model.specs.Living.{ids_of, one_of}
 use Rattle.tierra_model.specs.Ranges.{AreEfforts, IsCode}
@@ -19,19 +18,21 @@ use Rattle.tierra_model.proofs.DisturbanceCounts.{length-reaper}
 use Rattle.tierra_model.proofs.Each.{Each, all_from_each, each-one, each_from_all}
 use Rattle.tierra_model.proofs.Living.{one_of-id}
 use Rattle.tierra_model.proofs.Sound.{sound-saved_below}
+use Rattle.byte_fields.specs.declared.stop.Stop.{Stop}
+use Rattle.byte_fields.specs.declared.stop.Stop.TheVariants as stop
+use Rattle.byte_fields.specs.Exact.{Reads}
+use Rattle.byte_fields.specs.Reading.{Stops, both, counted_at, eight_at, eights_at, four_at, list_at, sized_at}
+use Rattle.byte_fields.specs.Writing.{IsLongEffort, eight, four}
+use Rattle.byte_fields.proofs.Exact.{Counted, Listed, reads_both, reads_counted, reads_list, reads_pair}
+use Rattle.byte_fields.proofs.Fields.{Long, LongPair, Short, eights_text, reads_eight, reads_eights, reads_four, reads_sized, sized_text}
 use Rattle.world_state.specs.declared.fields.Found.{Found}
-use Rattle.world_state.specs.declared.fields.Stop.{Stop}
-use Rattle.world_state.specs.declared.fields.Stop.TheVariants as stop
 use Rattle.world_state.specs.declared.saving.Saving.{Saving}
-use Rattle.world_state.specs.Reading.{StateParts, Stops, both, cells_at, eight_at, four_eights_at, founds_at, genotype_of, genotypes_of, line_at, list_at}
-use Rattle.world_state.specs.Reading.{savings_at, state_at}
-use Rattle.world_state.specs.Restoring.{AreBytesOf, FitsTypes, HasLongNumbers, HasWords, IsLongEffort}
+use Rattle.world_state.specs.Reading.{StateParts, creature_at, found_at, genotype_of, genotypes_of, saving_at, state_at}
+use Rattle.world_state.specs.Restoring.{AreBytesOf, FitsTypes, HasLongNumbers, HasWords}
 use Rattle.world_state.specs.Savings.{saving_of, savings_of}
-use Rattle.world_state.specs.StateBytes.{counts_bytes, creature_bytes, eight, four, genotype_bytes, genotypes_bytes, living_bytes, reaper_bytes, saving_bytes}
+use Rattle.world_state.specs.StateBytes.{counts_bytes, creature_bytes, genotype_bytes, genotypes_bytes, living_bytes, reaper_bytes, saving_bytes}
 use Rattle.world_state.specs.StateBytes.{savings_bytes, soup_bytes, state_bytes}
-use Rattle.world_state.proofs.ReadBack.{Back, back-both, back-eight, back-list}
-use Rattle.world_state.proofs.FieldsBack.{Counted, CreatureFits, EffortFits, FoundFits, Long, LongPairs, SavingFits, back-cells, grouped-6, back-four_eights}
-use Rattle.world_state.proofs.FieldsBack.{back-founds, back-line, back-savings}
+use Rattle.world_state.proofs.FieldsRead.{CreatureFits, FoundFits, SavingFits, grouped-6, reads_creature, reads_found, reads_saving}
 use Rattle.world_state.proofs.LineOrder.{AreHere, are-here, ids-of_line, line_of, sorted-again}
 use Rattle.world_state.proofs.SlicerLength.{length-slicer}
 
@@ -77,18 +78,20 @@ abbrev genes_text : Genes → List ℕ
 genes_text p = founds_text p.0 ++ savings_text p.1
 
 abbrev genes_at : List ℕ → Option (Genes × List ℕ)
-genes_at = both founds_at (λ _. savings_at)
+genes_at = both (counted_at eight_at found_at) (λ _. counted_at eight_at saving_at)
 
-back-genes : Back GenesFit genes_text genes_at
-back-genes =
-    back-both (Counted (2 ^ 64) FoundFits) founds_text founds_at (λ _. Counted (2 ^ 64) SavingFits) savings_text (λ _. savings_at)
-    back-founds (λ _. back-savings)
+reads-genes : Reads GenesFit genes_text genes_at
+reads-genes =
+    reads_pair (Counted (2 ^ 64) FoundFits) founds_text (counted_at eight_at found_at) (Counted (2 ^ 64) SavingFits) savings_text
+    (counted_at eight_at saving_at)
+    (reads_counted (2 ^ 64) eight eight_at FoundFits (λ f. genotype_bytes (genotype_of f)) found_at reads_eight reads_found)
+    (reads_counted (2 ^ 64) eight eight_at SavingFits (λ s. saving_bytes (saving_of s)) saving_at reads_eight reads_saving)
 
 abbrev Rest : Type 0
 Rest = List ℕ × Genes
 
 abbrev RestFits : List Creature → Rest → Type 0
-RestFits line p = ((length p.0 ≡ length line) × All Long p.0) × GenesFit p.1
+RestFits line p = Listed Long (length line) p.0 × GenesFit p.1
 
 abbrev rest_text : Rest → List ℕ
 rest_text p = flat_map eight p.0 ++ genes_text p.1
@@ -96,10 +99,10 @@ rest_text p = flat_map eight p.0 ++ genes_text p.1
 abbrev rest_at : List Creature → List ℕ → Option (Rest × List ℕ)
 rest_at line = both (list_at eight_at (length line)) (λ _. genes_at)
 
-back-rest : (line : List Creature) → Back (RestFits line) rest_text (rest_at line)
-back-rest line =
-    back-both (λ (ids : List ℕ). (length ids ≡ length line) × All Long ids) (flat_map eight) (list_at eight_at (length line))
-    (λ _. GenesFit) genes_text (λ _. genes_at) (back-list Long eight eight_at back-eight (length line)) (λ _. back-genes)
+reads-rest : (line : List Creature) → Reads (RestFits line) rest_text (rest_at line)
+reads-rest line =
+    reads_pair (Listed Long (length line)) (flat_map eight) (list_at eight_at (length line)) GenesFit genes_text genes_at
+    (reads_list Long eight eight_at reads_eight (length line)) reads-genes
 
 abbrev Living : Type 0
 Living = List Creature × Rest
@@ -111,24 +114,33 @@ abbrev living_text : Living → List ℕ
 living_text p = line_text p.0 ++ rest_text p.1
 
 abbrev living_at : List ℕ → Option (Living × List ℕ)
-living_at = both line_at rest_at
+living_at = both (counted_at four_at creature_at) rest_at
 
-back-living : Back LivingFits living_text living_at
-back-living = back-both (Counted (2 ^ 32) CreatureFits) line_text line_at RestFits rest_text rest_at back-line back-rest
+reads-living : Reads LivingFits living_text living_at
+reads-living =
+    reads_both (Counted (2 ^ 32) CreatureFits) line_text (counted_at four_at creature_at) RestFits rest_text rest_at
+    (reads_counted (2 ^ 32) four four_at CreatureFits creature_bytes creature_at reads_four reads_creature) reads-rest
 
-abbrev StateFits : StateParts → Type 0
-StateFits p = (length p.0 < 2 ^ 32) × (LongPairs p.1.0 × LivingFits p.1.1)
+abbrev LongPairs : (ℕ × ℕ) × (ℕ × ℕ) → Type 0
+LongPairs p = LongPair p.0 × LongPair p.1
 
-abbrev state_text : StateParts → List ℕ
-state_text p = (four (length p.0) ++ p.0) ++ (counts_text p.1.0 ++ living_text p.1.1)
+abbrev four_eights_at : List ℕ → Option (((ℕ × ℕ) × (ℕ × ℕ)) × List ℕ)
+four_eights_at = both eights_at (λ _. eights_at)
 
-back-state : Back StateFits state_text state_at
+abbrev pub StateFits : StateParts → Type 0
+StateFits p = Short (length p.0) × (LongPairs p.1.0 × LivingFits p.1.1)
+
+abbrev pub state_text : StateParts → List ℕ
+state_text p = sized_text p.0 ++ (counts_text p.1.0 ++ living_text p.1.1)
+
+pub reads_state : Reads StateFits state_text state_at
 unfolding state_at
-back-state =
-    back-both (λ cells. length cells < 2 ^ 32) (λ cells. four (length cells) ++ cells) cells_at
-    (λ _ (p : ((ℕ × ℕ) × (ℕ × ℕ)) × Living). LongPairs p.0 × LivingFits p.1) (λ p. counts_text p.0 ++ living_text p.1)
-    (λ _. both four_eights_at (λ _. living_at)) back-cells
-    (λ _. back-both LongPairs counts_text four_eights_at (λ _. LivingFits) living_text (λ _. living_at) back-four_eights (λ _. back-living))
+reads_state =
+    reads_pair (λ (cells : List ℕ). Short (length cells)) sized_text sized_at
+    (λ (p : ((ℕ × ℕ) × (ℕ × ℕ)) × Living). LongPairs p.0 × LivingFits p.1) (λ p. counts_text p.0 ++ living_text p.1)
+    (both four_eights_at (λ _. living_at)) reads_sized
+    (reads_pair LongPairs counts_text four_eights_at LivingFits living_text living_at
+    (reads_pair LongPair eights_text eights_at LongPair eights_text eights_at reads_eights reads_eights) reads-living)
 
 -- ---- the bytes are the text of the parts
 
@@ -210,10 +222,6 @@ line-fits w s t (id ∷ ids) h = (
     one : (P : Creature → Type 0) → All P w.living → P (one_of w.living id)
     one P all = each-one P w.living id h.0 (each_from_all P w.living all)
 
-effort-fits : (o : Option Effort) → IfSome o (λ (e : Effort). 1 ≤ e.ran) → IsLongEffort o → EffortFits o
-effort-fits None h l = tt
-effort-fits (Some e) h l = (l, h)
-
 founds-fit : (most k : ℕ) (gs : List Genotype) → most < COUNT_END → k + length gs < COUNT_END → ParentsBelow k gs
     → Each (λ g. IsCode g.code) gs → Each (λ g. g.total ≤ most) gs → Each (λ g. AreEfforts g.first_effort g.second_effort) gs
     → Each HasLongNumbers gs → Each FoundFits (map found_of gs)
@@ -222,14 +230,14 @@ founds-fit most k (g ∷ gs) low few parents written totals efforts long =
     let code = written.0 in
     let total = totals.0 in (
       (
-        (omega (arith, code.1), refl),
+        omega (arith, code.1),
         (
           parent g.parent parents.0,
           (
             long.0.0,
             (
               omega (arith, total),
-              (effort-fits g.first_effort efforts.0.0 long.0.1, effort-fits g.second_effort efforts.0.1 long.0.2),
+              ((efforts.0.0, long.0.1), (efforts.0.1, long.0.2)),
             ),
           ),
         ),
@@ -250,7 +258,7 @@ savings-fit most q (s ∷ ss) low few known past efforts long =
     let quantum = past.0 in (
       (
         (omega (arith, number), omega (arith, quantum)),
-        (effort-fits s.first_effort efforts.0.0 long.0.0, effort-fits s.second_effort efforts.0.1 long.0.1),
+        ((efforts.0.0, long.0.0), (efforts.0.1, long.0.1)),
       ),
       savings-fit most q ss low few known.1 past.1 efforts.1 long.1,
     )
@@ -308,14 +316,14 @@ parts-fit w s t =
 pub read_back : (chosen : Settings) (bytes : List ℕ) (w : World) → AreBytesOf chosen bytes w → state_at bytes ≡ Some (parts_of_world w, [])
 read_back chosen bytes w are =
     ap state_at (sym are.bytes ∙ same-text w are.sound ∙ sym (append-nil (state_text (parts_of_world w))))
-    ∙ back-state (parts_of_world w) [] (parts-fit w are.sound are.types)
+    ∙ reads_state.again (parts_of_world w) [] (parts-fit w are.sound are.types)
 
 -- ---- what is made of the parts
 
-pub none_told : (chosen : Settings) (bytes : List ℕ) (e : Stop) → Stops e (state_at bytes) → e ≡ stop.NoWorld
+pub none_told : (chosen : Settings) (bytes : List ℕ) (e : Stop) → Stops e (state_at bytes) → e ≡ stop.Malformed
     → (w : World) → AreBytesOf chosen bytes w → ⊥
 none_told chosen bytes stop.NoMemory none is w are = absurd cc
-none_told chosen bytes stop.NoWorld none is w are = (let some = read_back chosen bytes w are in cc)
+none_told chosen bytes stop.Malformed none is w are = (let some = read_back chosen bytes w are in cc)
 
 pub genotypes-again : (gs : List Genotype) → genotypes_of (map found_of gs) ≡ gs
 genotypes-again [] = refl

@@ -1,8 +1,8 @@
 -- When bytes are the state bytes of a sound world.
 use Rattle.std.specs.Int.{w32}
-use Rattle.std.specs.Prelude.{All, FitsSigned, IfSome, List, Option, length, ℕ, ◌<◌, ◌^◌, ◌≡◌}
+use Rattle.std.specs.Prelude.{All, FitsSigned, List, length, ℕ, ◌<◌, ◌^◌, ◌≡◌}
+use Rattle.byte_fields.specs.Writing.{IsLongEffort}
 use Rattle.tierra_model.specs.declared.creatures.Creature.{Creature}
-use Rattle.tierra_model.specs.declared.creatures.Effort.{Effort}
 use Rattle.tierra_model.specs.declared.parameters.Settings.{Settings}
 use Rattle.tierra_model.specs.Sound.{IsSound}
 use Rattle.tierra_model.specs.World.{Genotype, World}
@@ -17,9 +17,6 @@ pub record HasWords (c : Creature) : Type 0 where
   pub ten : length c.stack ≡ 10
   pub stack : All (FitsSigned w32) c.stack
   pub flag : c.flag < 2 ^ 8
-
-abbrev pub IsLongEffort : Option Effort → Type 0
-IsLongEffort o = IfSome o (λ (e : Effort). (e.ran < 2 ^ 64) × (e.moved < 2 ^ 64))
 
 abbrev pub HasLongNumbers : Genotype → Type 0
 HasLongNumbers g = (g.first_quantum < 2 ^ 64) × IsLongEffort g.first_effort × IsLongEffort g.second_effort

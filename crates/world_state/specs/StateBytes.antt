@@ -1,22 +1,16 @@
 -- Everything of a world but its settings, as bytes. Numbers are big-endian.
-use Rattle.std.specs.Int.{cast_unsigned, to_be_bytes, w32, w64}
+use Rattle.std.specs.Int.{cast_unsigned, w32}
 use Rattle.std.specs.List.{flat_map}
 use Rattle.std.specs.Prelude.{List, None, Option, Some, [], length, map, ℕ, ℤ, ◌++◌, ◌+◌, ◌∷◌}
+use Rattle.byte_fields.specs.Writing.{effort_bytes, eight, four}
 use Rattle.tierra_model.specs.declared.creatures.Block.{Block}
 use Rattle.tierra_model.specs.declared.creatures.Creature.{Creature}
-use Rattle.tierra_model.specs.declared.creatures.Effort.{Effort}
 use Rattle.tierra_model.specs.Living.{one_of}
 use Rattle.tierra_model.specs.World.{Genotype, Saving, World}
 
-abbrev pub four : ℕ → List ℕ
-four n = to_be_bytes w32 n
-
-abbrev pub eight : ℕ → List ℕ
-eight n = to_be_bytes w64 n
-
 -- a register or a word of the stack, in two's complement
 unfoldable pub register_bytes : ℤ → List ℕ
-register_bytes v = to_be_bytes w32 (cast_unsigned w32 v)
+register_bytes v = four (cast_unsigned w32 v)
 
 unfoldable pub block_bytes : Block → List ℕ
 block_bytes b = four b.at ++ four b.size
@@ -25,11 +19,6 @@ block_bytes b = four b.at ++ four b.size
 unfoldable pub daughter_bytes : Option Block → List ℕ
 daughter_bytes None = four 0 ++ four 0
 daughter_bytes (Some b) = four b.at ++ four b.size
-
--- 0 and 0 for no effort, since every effort ran at least one instruction
-unfoldable pub effort_bytes : Option Effort → List ℕ
-effort_bytes None = eight 0 ++ eight 0
-effort_bytes (Some e) = eight e.ran ++ eight e.moved
 
 unfoldable pub body_bytes : Creature → List ℕ
 body_bytes c = eight c.id ++ block_bytes c.own ++ daughter_bytes c.daughter ++ eight c.moved

@@ -6,12 +6,14 @@ ghost use Rattle.tierra_model.specs.declared.creatures.Creature.{Creature};
 ghost use Rattle.tierra_model.specs.Living.{ids_of};
 ghost use Rattle.tierra_model.specs.World.{World};
 ghost use Rattle.world_state.specs.Parts.{state_parts};
-ghost use Rattle.world_state.specs.Reading.{Gives, cells_at, founds_at, line_at, savings_at, state_at};
+ghost use Rattle.byte_fields.specs.Reading.{Gives};
+ghost use Rattle.world_state.specs.Reading.{state_at};
 ghost use Rattle.world_state.specs.Restoring.{AreBytesOf, AreOfNoWorld, FitsTypes};
-ghost use Rattle.world_state.specs.declared.fields.Stop.TheVariants.{NoWorld};
+ghost use Rattle.byte_fields.specs.declared.stop.Stop.TheVariants.{Malformed};
 
-use crate::fields::{Found, Stop, eight_of, four_eights_of, four_of, list_of, sized_of};
+use crate::fields::{Found, WorldFormat};
 use crate::saving::Saving;
+use byte_fields::{Stop, counted_by_eight, counted_by_four, eights_of, list_of, sized_of};
 use std::alloc::Global;
 use std::marker::Model;
 use tierra_model::{Creature, OutOfMemory, Settings};
@@ -68,7 +70,7 @@ pub fn draft_of(alloc: Global, settings: &Settings, bytes: &[u8]) -> Result<Draf
     ensures settings { IfOk result (λ d. d.settings ≡ settings.now) }
     ensures fits { IfOk result (λ d. FitsTypes d) }
     ensures told { IfOk result (λ d. (w : World) → AreBytesOf settings.now bytes.now w → d ≡ w) }
-    ensures none { result ≡ Err NoWorld → AreOfNoWorld settings.now bytes.now }
+    ensures none { result ≡ Err Malformed → AreOfNoWorld settings.now bytes.now }
 {
     let (parts, _) = parts_of(alloc, bytes)?;
     let slicer = numbers_of(alloc, &parts.line)?;
@@ -106,14 +108,15 @@ struct Parts {
 fn parts_of(alloc: Global, bytes: &[u8]) -> Result<(Parts, &[u8]), Stop>
     ensures { Gives (λ x. (state_parts x.0, x.1.now)) result (state_at bytes.now) }
 {
-    let (cells, rest) = cells_of(alloc, bytes)?;
-    let (quanta, births, deaths, next_birth, rest) = four_eights_of(rest)?;
-    let (line, rest) = line_of(alloc, rest)?;
-    let (reaper, rest) = list_of(alloc, line.len() as u64, rest)?;
-    let (founds, rest) = founds_of(alloc, rest)?;
-    let (saved, rest) = savings_of(alloc, rest)?;
+    let (cells, rest) = sized_of(bytes)?;
+    let (quanta, births, rest) = eights_of(rest)?;
+    let (deaths, next_birth, rest) = eights_of(rest)?;
+    let (line, rest) = counted_by_four::<WorldFormat, Creature>(alloc, WorldFormat, rest)?;
+    let (reaper, rest) = list_of(alloc, WorldFormat, line.len() as u64, rest)?;
+    let (founds, rest) = counted_by_eight(alloc, WorldFormat, rest)?;
+    let (saved, rest) = counted_by_eight(alloc, WorldFormat, rest)?;
     let parts = Parts {
-        cells,
+        cells: cells.to_vec(alloc)?,
         quanta,
         births,
         deaths,
@@ -124,38 +127,6 @@ fn parts_of(alloc: Global, bytes: &[u8]) -> Result<(Parts, &[u8]), Stop>
         saved,
     };
     Ok((parts, rest))
-}
-
-#[tactic(auto, unfolding(crate::specs::Reading::cells_at))]
-fn cells_of(alloc: Global, bytes: &[u8]) -> Result<(Vec<u8>, &[u8]), Stop>
-    ensures { Gives (λ x. (x.0.items, x.1.now)) result (cells_at bytes.now) }
-{
-    let (_, cells, rest) = sized_of(bytes)?;
-    Ok((cells.to_vec(alloc)?, rest))
-}
-
-#[tactic(auto, unfolding(crate::specs::Reading::line_at))]
-fn line_of(alloc: Global, bytes: &[u8]) -> Result<(Vec<Creature>, &[u8]), Stop>
-    ensures { Gives (λ x. (x.0.items, x.1.now)) result (line_at bytes.now) }
-{
-    let (count, rest) = four_of(bytes)?;
-    list_of(alloc, u64::from(count), rest)
-}
-
-#[tactic(auto, unfolding(crate::specs::Reading::founds_at))]
-fn founds_of(alloc: Global, bytes: &[u8]) -> Result<(Vec<Found>, &[u8]), Stop>
-    ensures { Gives (λ x. (x.0.items, x.1.now)) result (founds_at bytes.now) }
-{
-    let (count, rest) = eight_of(bytes)?;
-    list_of(alloc, count, rest)
-}
-
-#[tactic(auto, unfolding(crate::specs::Reading::savings_at))]
-fn savings_of(alloc: Global, bytes: &[u8]) -> Result<(Vec<Saving>, &[u8]), Stop>
-    ensures { Gives (λ x. (x.0.items, x.1.now)) result (savings_at bytes.now) }
-{
-    let (count, rest) = eight_of(bytes)?;
-    list_of(alloc, count, rest)
 }
 
 /// The birth numbers of the creatures, in their order.

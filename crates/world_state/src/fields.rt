@@ -1,37 +1,20 @@
 //! The fields of a world's bytes, each read from the front of what is left.
 
-ghost use Rattle.std.specs.Prelude.{◌≡◌, List, Option, ℕ};
+ghost use Rattle.std.specs.Prelude.{◌≡◌};
+ghost use Rattle.byte_fields.specs.Reading.{Gives, eight_at, list_at};
 ghost use Rattle.world_state.specs.Parts.{body_parts, counts_parts, processor_parts, registers_parts, stack_parts};
-ghost use Rattle.world_state.specs.Reading.{Gives, block_at, body_at, byte_at, counts_at, creature_at, creature_from, daughter_at, details_at, effort_at, efforts_at, eight_at, eights_at, found_at, four_at, four_eights_at, fours_at, list_at, parent_at, piece_at, processor_at, register_at, registers_at, saving_at, sized_at, stack_at, two_registers_at};
-ghost use Rattle.world_state.specs.declared.fields.Stop.TheVariants.{NoMemory};
+ghost use Rattle.world_state.specs.Reading.{block_at, body_at, counts_at, creature_at, creature_from, daughter_at, details_at, found_at, parent_at, processor_at, register_at, registers_at, saving_at, stack_at, two_registers_at};
 
 use crate::saving::Saving;
-use std::alloc::{AllocError, AllocFailed, Global};
+use byte_fields::{
+    Field, Stop, byte_of, efforts_of, eight_of, eights_of, four_of, fours_of, sized_of,
+};
+use std::alloc::Global;
 use tierra_model::{Block, Code, Creature, Effort};
 
-/// Why no world was read.
-#[derive(Clone, Copy, Debug, Drop, PartialEq, Eq)]
-pub enum Stop {
-    NoMemory,
-    /// The bytes are those of no world.
-    NoWorld,
-}
-
-impl From<AllocError> for Stop {
-    ghost from_gives = { λ _ e. e ≡ NoMemory };
-
-    fn from(_: AllocError) -> Stop {
-        Stop::NoMemory
-    }
-}
-
-impl<T: Drop> From<AllocFailed<T>> for Stop {
-    ghost from_gives = { λ _ e. e ≡ NoMemory };
-
-    fn from(_: AllocFailed<T>) -> Stop {
-        Stop::NoMemory
-    }
-}
+/// The format of a world's bytes.
+#[derive(Clone, Copy, Drop)]
+pub struct WorldFormat;
 
 /// A genotype as it was read from the bytes.
 #[derive(Debug, Drop)]
@@ -44,123 +27,12 @@ pub struct Found {
     pub second_effort: Option<Effort>,
 }
 
-/// What can be read from the front of bytes.
-pub trait Field: Sized {
-    // the value that bytes begin with, and the bytes after it
-    ghost at: { List ℕ → Option (Self × List ℕ) };
+impl Field<WorldFormat> for u64 {
+    ghost at = { λ _. eight_at };
 
-    fn read(alloc: Global, bytes: &[u8]) -> Result<(Self, &[u8]), Stop>
-        ensures { Gives (λ x. (x.0, x.1.now)) result (at bytes.now) };
-}
-
-// ---- numbers
-
-/// A number in four bytes.
-pub fn four_of(bytes: &[u8]) -> Result<(u32, &[u8]), Stop>
-    ensures { Gives (λ x. (x.0, x.1.now)) result (four_at bytes.now) }
-{
-    if bytes.len() < 4 {
-        return Err(Stop::NoWorld);
-    }
-    let (front, rest) = bytes.split_at(4);
-    let number = u32::from_be_bytes([front[0], front[1], front[2], front[3]]);
-    Ok((number, rest))
-}
-
-/// A number in eight bytes.
-pub fn eight_of(bytes: &[u8]) -> Result<(u64, &[u8]), Stop>
-    ensures { Gives (λ x. (x.0, x.1.now)) result (eight_at bytes.now) }
-{
-    if bytes.len() < 8 {
-        return Err(Stop::NoWorld);
-    }
-    let (front, rest) = bytes.split_at(8);
-    let number = u64::from_be_bytes([
-        front[0], front[1], front[2], front[3], front[4], front[5], front[6], front[7],
-    ]);
-    Ok((number, rest))
-}
-
-// The first `size` bytes.
-fn piece_of(size: usize, bytes: &[u8]) -> Result<(&[u8], &[u8]), Stop>
-    ensures { Gives (λ x. (x.0.now, x.1.now)) result (piece_at size bytes.now) }
-{
-    if bytes.len() < size {
-        return Err(Stop::NoWorld);
-    }
-    Ok(bytes.split_at(size))
-}
-
-#[tactic(auto, unfolding(crate::specs::Reading::byte_at))]
-fn byte_of(bytes: &[u8]) -> Result<(u8, &[u8]), Stop>
-    ensures { Gives (λ x. (x.0, x.1.now)) result (byte_at bytes.now) }
-{
-    let (piece, rest) = piece_of(1, bytes)?;
-    Ok((piece[0], rest))
-}
-
-#[tactic(auto, unfolding(crate::specs::Reading::fours_at))]
-fn fours_of(bytes: &[u8]) -> Result<(u32, u32, &[u8]), Stop>
-    ensures { Gives (λ x. ((x.0, x.1), x.2.now)) result (fours_at bytes.now) }
-{
-    let (first, rest) = four_of(bytes)?;
-    let (second, rest) = four_of(rest)?;
-    Ok((first, second, rest))
-}
-
-#[tactic(auto, unfolding(crate::specs::Reading::eights_at))]
-fn eights_of(bytes: &[u8]) -> Result<(u64, u64, &[u8]), Stop>
-    ensures { Gives (λ x. ((x.0, x.1), x.2.now)) result (eights_at bytes.now) }
-{
-    let (first, rest) = eight_of(bytes)?;
-    let (second, rest) = eight_of(rest)?;
-    Ok((first, second, rest))
-}
-
-/// Four numbers of eight bytes.
-#[tactic(auto, unfolding(crate::specs::Reading::four_eights_at))]
-pub fn four_eights_of(bytes: &[u8]) -> Result<(u64, u64, u64, u64, &[u8]), Stop>
-    ensures { Gives (λ x. (((x.0, x.1), (x.2, x.3)), x.4.now)) result (four_eights_at bytes.now) }
-{
-    let (a, b, rest) = eights_of(bytes)?;
-    let (c, d, rest) = eights_of(rest)?;
-    Ok((a, b, c, d, rest))
-}
-
-/// A size in four bytes, and then that many bytes.
-#[tactic(auto, unfolding(crate::specs::Reading::sized_at))]
-pub fn sized_of(bytes: &[u8]) -> Result<(u32, &[u8], &[u8]), Stop>
-    ensures { Gives (λ x. ((x.0, x.1.now), x.2.now)) result (sized_at bytes.now) }
-{
-    let (size, rest) = four_of(bytes)?;
-    let (piece, rest) = piece_of(size as usize, rest)?;
-    Ok((size, piece, rest))
-}
-
-impl Field for u64 {
-    ghost at = { eight_at };
-
-    fn read(_: Global, bytes: &[u8]) -> Result<(u64, &[u8]), Stop> {
+    fn read(_: Global, _: WorldFormat, bytes: &[u8]) -> Result<(u64, &[u8]), Stop> {
         eight_of(bytes)
     }
-}
-
-/// A field read `count` times.
-pub fn list_of<F: Field + Drop>(
-    alloc: Global,
-    count: u64,
-    bytes: &[u8],
-) -> Result<(Vec<F>, &[u8]), Stop>
-    ensures { Gives (λ x. (x.0.items, x.1.now)) result (list_at F.at count bytes.now) }
-{
-    let mut list = Vec::new(alloc);
-    let mut rest = bytes;
-    for _ in 0..count {
-        let (field, after) = F::read(alloc, rest)?;
-        list.push(field)?;
-        rest = after;
-    }
-    Ok((list, rest))
 }
 
 // ---- creatures
@@ -228,10 +100,11 @@ fn daughter_of(bytes: &[u8]) -> Result<(Option<Block>, &[u8]), Stop>
     ensures { Gives (λ x. (x.0, x.1.now)) result (daughter_at bytes.now) }
 {
     let (at, size, rest) = fours_of(bytes)?;
-    if size == 0 {
-        return Ok((None, rest));
+    match (at, size) {
+        (0, 0) => Ok((None, rest)),
+        (_, 0) => Err(Stop::Malformed),
+        _ => Ok((Some(Block { at, size }), rest)),
     }
-    Ok((Some(Block { at, size }), rest))
 }
 
 #[tactic(auto, unfolding(crate::specs::Reading::body_at))]
@@ -300,11 +173,11 @@ fn counts_of(bytes: &[u8]) -> Result<(Counts, &[u8]), Stop>
     Ok((counts, rest))
 }
 
-impl Field for Creature {
-    ghost at = { creature_at };
+impl Field<WorldFormat> for Creature {
+    ghost at = { λ _. creature_at };
 
     #[tactic(auto, unfolding(crate::specs::Reading::creature_at, crate::specs::Reading::processor_at))]
-    fn read(_: Global, bytes: &[u8]) -> Result<(Creature, &[u8]), Stop> {
+    fn read(_: Global, _: WorldFormat, bytes: &[u8]) -> Result<(Creature, &[u8]), Stop> {
         let (body, rest) = body_of(bytes)?;
         let (registers, rest) = registers_of(rest)?;
         let (ip, rest) = four_of(rest)?;
@@ -347,26 +220,6 @@ fn creature_from(
 
 // ---- genotypes and savings
 
-#[tactic(auto, unfolding(crate::specs::Reading::effort_at))]
-fn effort_of(bytes: &[u8]) -> Result<(Option<Effort>, &[u8]), Stop>
-    ensures { Gives (λ x. (x.0, x.1.now)) result (effort_at bytes.now) }
-{
-    let (ran, moved, rest) = eights_of(bytes)?;
-    if ran == 0 {
-        return Ok((None, rest));
-    }
-    Ok((Some(Effort { ran, moved }), rest))
-}
-
-#[tactic(auto, unfolding(crate::specs::Reading::efforts_at))]
-fn efforts_of(bytes: &[u8]) -> Result<(Option<Effort>, Option<Effort>, &[u8]), Stop>
-    ensures { Gives (λ x. ((x.0, x.1), x.2.now)) result (efforts_at bytes.now) }
-{
-    let (first, rest) = effort_of(bytes)?;
-    let (second, rest) = effort_of(rest)?;
-    Ok((first, second, rest))
-}
-
 #[tactic(auto, unfolding(crate::specs::Reading::parent_at))]
 fn parent_of(bytes: &[u8]) -> Result<(Option<u64>, &[u8]), Stop>
     ensures { Gives (λ x. (x.0, x.1.now)) result (parent_at bytes.now) }
@@ -375,11 +228,11 @@ fn parent_of(bytes: &[u8]) -> Result<(Option<u64>, &[u8]), Stop>
     Ok((number.checked_sub(1), rest))
 }
 
-impl Field for Saving {
-    ghost at = { saving_at };
+impl Field<WorldFormat> for Saving {
+    ghost at = { λ _. saving_at };
 
     #[tactic(auto, unfolding(crate::specs::Reading::saving_at))]
-    fn read(_: Global, bytes: &[u8]) -> Result<(Saving, &[u8]), Stop> {
+    fn read(_: Global, _: WorldFormat, bytes: &[u8]) -> Result<(Saving, &[u8]), Stop> {
         let (genotype, quantum, rest) = eights_of(bytes)?;
         let (first_effort, second_effort, rest) = efforts_of(rest)?;
         let saving = Saving {
@@ -392,12 +245,12 @@ impl Field for Saving {
     }
 }
 
-impl Field for Found {
-    ghost at = { found_at };
+impl Field<WorldFormat> for Found {
+    ghost at = { λ _. found_at };
 
     #[tactic(auto, unfolding(crate::specs::Reading::found_at, crate::specs::Reading::details_at))]
-    fn read(alloc: Global, bytes: &[u8]) -> Result<(Found, &[u8]), Stop> {
-        let (_, cells, rest) = sized_of(bytes)?;
+    fn read(alloc: Global, _: WorldFormat, bytes: &[u8]) -> Result<(Found, &[u8]), Stop> {
+        let (cells, rest) = sized_of(bytes)?;
         let (parent, rest) = parent_of(rest)?;
         let (first_quantum, rest) = eight_of(rest)?;
         let (total, rest) = eight_of(rest)?;

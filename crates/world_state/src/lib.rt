@@ -9,9 +9,10 @@ mod fields;
 mod saving;
 mod soundness;
 
+pub use byte_fields::Stop;
 pub use checks::blocks_in;
 pub use copying::copied;
 pub use draft::{Draft, draft_of};
 pub use entering::genotypes_from;
-pub use fields::{Found, Stop};
+pub use fields::Found;
 pub use saving::Saving;

@@ -58,7 +58,7 @@ fn read_of(alloc: Global, setup: &Setup, bytes: &[u8]) -> Result<Draft, Fail> {
 
 /// Whether the bytes spell no world.
 fn tells_none(alloc: Global, setup: &Setup, bytes: &[u8]) -> bool {
-    draft_of(alloc, &setup.settings, bytes).err() == Some(Stop::NoWorld)
+    draft_of(alloc, &setup.settings, bytes).err() == Some(Stop::Malformed)
 }
 
 /// The quanta, the births, the deaths, the next birth number, how many ever had the first genotype, and the number of

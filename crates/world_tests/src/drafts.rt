@@ -150,7 +150,7 @@ fn a_part_of_a_small_world_is_not_read(rt: HostRuntime) -> Result<(), Fail> {
     let bytes = small_world(alloc)?;
     for len in 0..bytes.len() {
         let stop = draft_of(alloc, &settings, &bytes[..len]).err();
-        assert_eq!(rt; stop, Some(Stop::NoWorld));
+        assert_eq!(rt; stop, Some(Stop::Malformed));
     }
     Ok(())
 }

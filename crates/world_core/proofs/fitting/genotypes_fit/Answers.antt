@@ -2,7 +2,8 @@ use Rattle.std.proofs.Common.{All, arith, length, subst, ℕ, ◌<◌, ◌≤◌
 use Rattle.std.proofs.lemmas.List.{take_all}
 use Rattle.std.proofs.lemmas.List.Elements.{All-more}
 use Rattle.tierra_model.specs.World.{no_genotype}
-use Rattle.world_state.specs.Restoring.{HasLongNumbers, IsLongEffort}
+use Rattle.byte_fields.specs.Writing.{IsLongEffort}
+use Rattle.world_state.specs.Restoring.{HasLongNumbers}
 use Rattle.world_core.proofs.fitting.genotypes_fit.Goals as goal
 
 pub loop-number-preserved : goal.loop-number-preserved

@@ -2,7 +2,7 @@ use Rattle.std.proofs.Common.{All, subst}
 use Rattle.std.proofs.lemmas.List.{take_all}
 use Rattle.std.proofs.lemmas.List.Elements.{All-map, All-more}
 use Rattle.tierra_model.specs.World.{Saving as ModelSaving}
-use Rattle.world_state.specs.Restoring.{IsLongEffort}
+use Rattle.byte_fields.specs.Writing.{IsLongEffort}
 use Rattle.world_state.specs.Savings.{saving_of}
 use Rattle.world_state.specs.declared.saving.Saving.{Saving}
 use Rattle.world_core.proofs.fitting.savings_fit.Goals as goal

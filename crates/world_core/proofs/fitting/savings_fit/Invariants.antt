@@ -1,5 +1,5 @@
 use Rattle.std.proofs.Common.{All, take}
-use Rattle.world_state.specs.Restoring.{IsLongEffort}
+use Rattle.byte_fields.specs.Writing.{IsLongEffort}
 use Rattle.world_state.specs.declared.saving.Saving.{Saving}
 use Rattle.world_core.proofs.fitting.savings_fit.Given as goal
 

@@ -1,7 +1,8 @@
 use Rattle.std.proofs.Common.{All, subst, ℕ, ◌<◌, ◌^◌, ◌∙◌}
 use Rattle.tierra_model.specs.World.{Saving}
 use Rattle.tierra_model.proofs.DisturbanceCounts.{length-reaper}
-use Rattle.world_state.specs.Restoring.{HasLongNumbers, IsLongEffort}
+use Rattle.byte_fields.specs.Writing.{IsLongEffort}
+use Rattle.world_state.specs.Restoring.{HasLongNumbers}
 use Rattle.world_core.proofs.fitting.world_fits.Goals as goal
 
 pub returns : goal.returns

@@ -3,7 +3,8 @@ use Rattle.std.specs.List.{flat_map}
 use Rattle.std.specs.Prelude.{OnOk}
 use Rattle.tierra_model.specs.Living.{one_of}
 use Rattle.tierra_model.proofs.DisturbanceCounts.{length-reaper}
-use Rattle.world_state.specs.StateBytes.{creature_bytes, four, living_bytes}
+use Rattle.byte_fields.specs.Writing.{four}
+use Rattle.world_state.specs.StateBytes.{creature_bytes, living_bytes}
 use Rattle.world_state.proofs.SlicerLength.{length-slicer}
 use Rattle.world_core.proofs.state.push_living.Goals as goal
 

@@ -1,6 +1,6 @@
 use Rattle.std.proofs.Common.{◌≡◌, ◌++◌, take}
 use Rattle.std.specs.List.{flat_map}
-use Rattle.world_state.specs.StateBytes.{eight}
+use Rattle.byte_fields.specs.Writing.{eight}
 use Rattle.world_core.proofs.state.push_reaper.Given as goal
 
 abbrev pub invariant-loop-place : goal.invariant-loop-place

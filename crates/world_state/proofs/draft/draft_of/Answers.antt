@@ -2,7 +2,7 @@ use Rattle.std.proofs.Common.{◌≡◌, ◌∙◌, ap, arith, sym}
 use Rattle.std.proofs.lemmas.Result.{err_from_is_err_and}
 use Rattle.tierra_model.specs.Counting.{times_in}
 use Rattle.tierra_model.specs.Living.{ids_of}
-use Rattle.world_state.specs.declared.fields.Stop.TheVariants as stop
+use Rattle.byte_fields.specs.declared.stop.Stop.TheVariants as stop
 use Rattle.world_state.proofs.LineOrder.{times-permuted}
 use Rattle.world_state.proofs.Told.{draft_is, none_told}
 use Rattle.world_state.proofs.TypesFit.{types-fit}
@@ -11,7 +11,7 @@ use Rattle.world_state.proofs.draft.draft_of.Goals as goal
 pub returns-in_err-parts-clause-none : goal.returns-in_err-parts-clause-none
 returns-in_err-parts-clause-none c = λ same w are.
     let p = err_from_is_err_and c.from_residual.result c.from_residual.ensures.1 in
-    let stopped : c.in_err-parts.field-0.0 ≡ stop.NoWorld = cc (p.1, p.2, same) in
+    let stopped : c.in_err-parts.field-0.0 ≡ stop.Malformed = cc (p.1, p.2, same) in
     none_told c.args.settings.now c.args.bytes.now c.in_err-parts.field-0.0 c.in_err-parts.ensures stopped w are
 
 pub invariant_of-result : goal.invariant_of-result

@@ -1,8 +1,9 @@
 use Rattle.std.proofs.Common.{rules, ◌≡◌, ◌∙◌, ◌+◌, ◌-◌, ◌++◌, ◌∷◌, [], Some, arith, length, of_z, slice_set, take, to_z, w32}
 use Rattle.std.proofs.lemmas.List.{take_all, take_more_set, length-set}
 use Rattle.std.proofs.lemmas.Result.{err_from_is_err_and}
-use Rattle.world_state.specs.Reading.{list_at, register_at}
-use Rattle.world_state.proofs.FieldLoop.{goes_on, is_done, stops, with_front}
+use Rattle.byte_fields.specs.Reading.{list_at}
+use Rattle.byte_fields.proofs.ListLoop.{goes_on, is_done, stops, with_front}
+use Rattle.world_state.specs.Reading.{register_at}
 use Rattle.world_state.proofs.fields.words_of.Goals as goal
 
 pub returns-in_err-word : goal.returns-in_err-word

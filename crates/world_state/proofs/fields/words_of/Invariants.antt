@@ -1,6 +1,7 @@
 use Rattle.std.proofs.Common.{◌≡◌, ◌-◌, length, take}
-use Rattle.world_state.specs.Reading.{list_at, register_at}
-use Rattle.world_state.proofs.FieldLoop.{with_front}
+use Rattle.byte_fields.specs.Reading.{list_at}
+use Rattle.byte_fields.proofs.ListLoop.{with_front}
+use Rattle.world_state.specs.Reading.{register_at}
 use Rattle.world_state.proofs.fields.words_of.Given as goal
 
 abbrev pub invariant-loop-k : goal.invariant-loop-k

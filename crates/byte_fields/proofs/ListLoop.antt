@@ -1,8 +1,8 @@
 -- Reading n of a field one after the other, as a loop does.
 use Rattle.std.proofs.Common.{◌≡◌, ℕ, suc, ◌-◌, ◌+◌, ◌≤◌, ◌<◌, List, [], ◌∷◌, ◌++◌, Option, Some, None, refl, sym, ap, ◌∙◌, append_assoc, append-nil, arith}
-use Rattle.world_state.specs.declared.fields.Stop.{Stop}
-use Rattle.world_state.specs.declared.fields.Stop.TheVariants as stop
-use Rattle.world_state.specs.Reading.{◌>>=◌, Stops, list_at}
+use Rattle.byte_fields.specs.declared.stop.Stop.{Stop}
+use Rattle.byte_fields.specs.declared.stop.Stop.TheVariants as stop
+use Rattle.byte_fields.specs.Reading.{◌>>=◌, Stops, list_at}
 
 -- what was read before, and what is still read
 abbrev pub with_front : {X : Type 0} → List X → Option (List X × List ℕ) → Option (List X × List ℕ)
@@ -29,7 +29,7 @@ pub stops : {X : Type 0} (e : Stop) (field : List ℕ → Option (X × List ℕ)
     → with_front front (list_at field (count - i) bytes) ≡ whole → Stops e whole
 unfolding list_at
 stops stop.NoMemory field front count i bytes whole lt read so_far = tt
-stops stop.NoWorld field front count i bytes whole lt read so_far =
+stops stop.Malformed field front count i bytes whole lt read so_far =
     let left : count - i ≡ suc (count - (i + 1)) = omega arith in
     let one : with_front front (list_at field (count - i) bytes) ≡ None = rw (left, read) refl in
     sym so_far ∙ one

@@ -1,6 +1,6 @@
 use Rattle.std.proofs.Common.{◌≡◌, ◌≤◌, ◌+◌, vec_capacity, vec_len}
 use Rattle.std.specs.Prelude.{slice_range}
-use Rattle.world_core.proofs.running.code_of.Given as goal
+use Rattle.world_core.proofs.running.looking.code_of.Given as goal
 
 abbrev pub invariant-loop-at : goal.invariant-loop-at
 invariant-loop-at l =

@@ -7,8 +7,8 @@ use Rattle.tierra_model.proofs.Free.{runs_of_in}
 use Rattle.block_alloc.proofs.Owned.{runs_of-alike}
 use Rattle.tierra_model.specs.Room.{holds}
 use Rattle.world_core.proofs.Ownership.{holds_daughter, not_own, regroup, runs-again}
-use Rattle.world_core.proofs.running.give_back_all.Goals as goal
-use Rattle.world_core.proofs.running.give_back_all.Goals.{After-give_back}
+use Rattle.world_core.proofs.running.events.give_back_all.Goals as goal
+use Rattle.world_core.proofs.running.events.give_back_all.Goals.{After-give_back}
 
 -- what is free once the creature's own block is
 free_then : (c : After-give_back) → c.give_back.new.self.free

@@ -1,6 +1,6 @@
 use Rattle.std.proofs.Common.{◌≡◌, ◌∙◌, ◌+◌, ◌<◌, ◌≤◌, get_or, length, rules, set}
 use Rattle.world_core.proofs.Cells.{overwrite-more}
-use Rattle.world_core.proofs.running.write_code.Goals as goal
+use Rattle.world_core.proofs.running.births.write_code.Goals as goal
 
 pub loop-i-preserved : goal.loop-i-preserved
 loop-i-preserved c =

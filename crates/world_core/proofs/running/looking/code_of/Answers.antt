@@ -1,6 +1,6 @@
 use Rattle.std.proofs.Common.{◌∙◌, ◌+◌, ◌<◌, ◌≤◌, ◌^◌, [], ◌∷◌, ◌++◌, arith, length, sym}
 use Rattle.world_core.proofs.Cells.{copied-more}
-use Rattle.world_core.proofs.running.code_of.Goals as goal
+use Rattle.world_core.proofs.running.looking.code_of.Goals as goal
 
 pub overflow_add-at-end : goal.overflow_add-at-end
 overflow_add-at-end c =

@@ -1,0 +1,3 @@
+pub mod ListLoop
+pub mod Exact
+pub mod Fields
