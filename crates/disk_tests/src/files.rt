@@ -1,10 +1,12 @@
 //! The desk over a real file, in the folder that the test runs in, and the source over inputs that fail.
 
+ghost use Rattle.std.specs.Prelude.{refl};
+
 use crate::sources::drain;
 use desk_io::{Desk, Piece};
-use file_desk::{FileDesk, InputSource};
+use file_desk::{FileDesk, InputSource, SteadyRead, SteadyWrite};
 use std::alloc::Global;
-use std::io::{Error, ErrorKind, Read};
+use std::io::{Error, ErrorKind, Read, Write};
 use std::test::Fail;
 use std::{fs, io};
 
@@ -39,6 +41,39 @@ impl Read for Turns<'_> {
             Turn::Fails(kind) => Err(Error::from(kind)),
         }
     }
+}
+
+impl SteadyRead for Turns<'_> {
+    ghost steady = { λ a b. refl };
+}
+
+// An output with room for so many bytes, of which it takes two at a time, and each second time only once asked again.
+#[derive(Drop)]
+struct Narrow {
+    bytes: Vec<u8>,
+    room: usize,
+    is_asked: bool,
+}
+
+impl Write for Narrow {
+    fn write(&mut self, bytes: &[u8]) -> io::Result<usize> {
+        self.is_asked = !self.is_asked;
+        if self.is_asked {
+            return Err(Error::from(ErrorKind::Interrupted));
+        }
+        let count = bytes.len().min(self.room).min(2);
+        self.bytes.extend_from_slice(&bytes[..count])?;
+        self.room -= count;
+        Ok(count)
+    }
+
+    fn flush(&mut self) -> io::Result<()> {
+        Ok(())
+    }
+}
+
+impl SteadyWrite for Narrow {
+    ghost steady = { λ a b. refl };
 }
 
 // What an input of these turns gives: its bytes, the answer that ends them, and the faults.
@@ -85,12 +120,12 @@ fn an_input_is_read_to_its_end_or_its_failure(rt: HostRuntime) -> Result<(), Fai
 #[test]
 fn a_file_has_what_was_written(rt: HostRuntime) -> Result<(), Fail> {
     let _ = fs::remove_file(&rt, BANK);
-    let mut desk = FileDesk::new(&rt, BANK, io::sink());
+    let mut desk = FileDesk::new(&rt, BANK, Vec::new(rt.alloc()));
     assert_eq!(rt; desk.len()?, 0);
     desk.write_at(0, b"bank")?;
     desk.sync()?;
     desk.write_at(4, b"!")?;
-    let mut again = FileDesk::new(&rt, BANK, io::sink());
+    let mut again = FileDesk::new(&rt, BANK, Vec::new(rt.alloc()));
     assert_eq!(rt; again.len()?, 5);
     let mut buf = [0; 4];
     again.read_at(1, &mut buf)?;
@@ -102,14 +137,14 @@ fn a_file_has_what_was_written(rt: HostRuntime) -> Result<(), Fail> {
 
 // Whether a sync and a write of further runs fail.
 fn are_kept_out(rt: &HostRuntime) -> (bool, bool) {
-    let synced = FileDesk::new(rt, BANK, io::sink()).sync();
-    let written = FileDesk::new(rt, BANK, io::sink()).write_at(0, b"tank");
+    let synced = FileDesk::new(rt, BANK, Vec::new(rt.alloc())).sync();
+    let written = FileDesk::new(rt, BANK, Vec::new(rt.alloc())).write_at(0, b"tank");
     (synced.is_err(), written.is_err())
 }
 
 // Makes the file, and gives whether others are kept out meanwhile.
 fn run_once(rt: &HostRuntime) -> Result<(bool, bool), Fail> {
-    let mut run = FileDesk::new(rt, BANK, io::sink());
+    let mut run = FileDesk::new(rt, BANK, Vec::new(rt.alloc()));
     run.sync()?;
     run.write_at(0, b"bank")?;
     Ok(are_kept_out(rt))
@@ -119,7 +154,7 @@ fn run_once(rt: &HostRuntime) -> Result<(bool, bool), Fail> {
 fn a_second_run_is_kept_out(rt: HostRuntime) -> Result<(), Fail> {
     let _ = fs::remove_file(&rt, BANK);
     assert_eq!(rt; run_once(&rt)?, (true, true));
-    let mut next = FileDesk::new(&rt, BANK, io::sink());
+    let mut next = FileDesk::new(&rt, BANK, Vec::new(rt.alloc()));
     next.write_at(0, b"t")?;
     fs::remove_file(&rt, BANK)?;
     Ok(())
@@ -128,7 +163,7 @@ fn a_second_run_is_kept_out(rt: HostRuntime) -> Result<(), Fail> {
 #[test]
 fn a_look_makes_no_file(rt: HostRuntime) -> Result<(), Fail> {
     let _ = fs::remove_file(&rt, BANK);
-    let len = FileDesk::new(&rt, BANK, io::sink()).len()?;
+    let len = FileDesk::new(&rt, BANK, Vec::new(rt.alloc())).len()?;
     assert_eq!(rt; (len, fs::metadata(&rt, BANK).is_err()), (0, true));
     Ok(())
 }
@@ -136,16 +171,16 @@ fn a_look_makes_no_file(rt: HostRuntime) -> Result<(), Fail> {
 // Writes a file that two others read. Gives the lengths that they are told, and whether the first one fails to read,
 // since the file has grown.
 fn grown(rt: &HostRuntime) -> Result<(u64, u64, u64, bool), Fail> {
-    let mut reader = FileDesk::new(rt, BANK, io::sink());
+    let mut reader = FileDesk::new(rt, BANK, Vec::new(rt.alloc()));
     let none = reader.len()?;
-    let mut run = FileDesk::new(rt, BANK, io::sink());
+    let mut run = FileDesk::new(rt, BANK, Vec::new(rt.alloc()));
     run.sync()?;
     run.write_at(0, b"bank")?;
     let four = reader.len()?;
     run.write_at(4, b"!")?;
     let mut buf = [0; 4];
     let failed = reader.read_at(0, &mut buf).is_err();
-    let mut again = FileDesk::new(rt, BANK, io::sink());
+    let mut again = FileDesk::new(rt, BANK, Vec::new(rt.alloc()));
     let five = again.len()?;
     again.read_at(0, &mut buf)?;
     Ok((none, four, five, failed))
@@ -161,12 +196,16 @@ fn a_reader_is_told_that_the_file_grew(rt: HostRuntime) -> Result<(), Fail> {
 
 #[test]
 fn what_is_told_is_written_or_fails(rt: HostRuntime) -> Result<(), Fail> {
-    let mut bytes = [0; 6];
-    let mut desk = FileDesk::new(&rt, BANK, &mut bytes[..]);
+    let mut output = Narrow {
+        bytes: Vec::new(rt.alloc()),
+        room: 6,
+        is_asked: false,
+    };
+    let mut desk = FileDesk::new(&rt, BANK, &mut output);
     desk.tell(b"saved")?;
     assert!(rt; desk.tell(b"\n0").is_err(), "one byte has room");
     assert_eq!(rt; (desk.disk_faults, desk.tell_faults), (0, 1));
     drop(desk);
-    assert_eq!(rt; bytes, *b"saved\n");
+    assert_eq!(rt; output.bytes.as_slice(), b"saved\n".as_slice());
     Ok(())
 }

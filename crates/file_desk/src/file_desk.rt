@@ -1,28 +1,30 @@
-//! A desk over a file and an output. Its state in contracts has no bytes, and only counts faults.
+//! A desk over a file and an output. It tells nothing of the file, and the printed text where the output tells what it
+//! has taken.
 
-ghost use Rattle.std.specs.Prelude.{◌≡◌, ◌+◌, IfOk, IsErr, IsOk, OnErr, OnOk, Ok, None};
-ghost use Rattle.std.specs.Io.KnownBytes.{Appends};
+ghost use Rattle.std.specs.Prelude.{◌≡◌, ◌≤◌, ◌+◌, IfOk, IsErr, IsOk, OnErr, OnOk, Ok, length, take};
+ghost use Rattle.desk_io.specs.Desk.{Appended, AppendedSome};
 
 use crate::disk_file::DiskFile;
+use crate::steady::SteadyWrite;
 use desk_io::{Desk, DiskFailed, TellFailed};
 use std::fs::File;
 use std::io;
-use std::io::Write;
 use std::rt::Files;
 
 /// The desk over a file of the working folder and an output, such as standard output.
 #[derive(Drop)]
-pub struct FileDesk<'r, R: Files<File = File>, W: Write> {
+pub struct FileDesk<'r, R: Files<File = File>, W: SteadyWrite> {
     file: DiskFile<'r, R>,
-    output: W,
+    pub output: W,
     /// How many disk calls failed, and how many tells.
     pub disk_faults: u64,
     pub tell_faults: u64,
 }
 
-impl<'r, R: Files<File = File>, W: Write> FileDesk<'r, R, W> {
+impl<'r, R: Files<File = File>, W: SteadyWrite> FileDesk<'r, R, W> {
     /// A desk over the file of this name, which is not opened yet, and on which nothing was told yet.
     pub fn new(rt: &'r R, name: &'static str, output: W) -> FileDesk<'r, R, W>
+        ensures output { result.output ≡ output }
         ensures disk { result.disk_faults ≡ 0 }
         ensures tells { result.tell_faults ≡ 0 }
     {
@@ -69,24 +71,41 @@ fn tell_answer(told: io::Result<()>, faults: &mut u64) -> Result<(), TellFailed>
     }
 }
 
-// Writes the piece, and flushes it. No contract speaks of the flush.
-fn print<W: Write>(output: &mut W, piece: &[u8]) -> io::Result<()>
-    ensures { OnOk result (Appends (W.contents output.old) (W.contents output.new) piece.now) }
+// Writes some of the bytes. A write that a signal interrupted is made again.
+fn print_some<W: SteadyWrite>(output: &mut W, bytes: &[u8]) -> io::Result<usize>
+    ensures fits { IfOk result (λ count. count ≤ length bytes.now) }
+    ensures ok { IfOk result (λ count. Appended (W.contents output.old) (take count bytes.now) (W.contents output.new)) }
+    ensures err { OnErr result (W.contents output.new ≡ W.contents output.old) }
 {
-    output.write_all(piece)?;
+    for _ in 0..u64::MAX {
+        match output.write(bytes) {
+            Err(fault) if fault.kind() == io::ErrorKind::Interrupted => {}
+            answer => return answer,
+        }
+    }
+    Err(io::Error::from(io::ErrorKind::Interrupted))
+}
+
+// Writes the piece, and flushes it. A failure leaves a beginning of the piece written.
+fn print<W: SteadyWrite>(output: &mut W, piece: &[u8]) -> io::Result<()>
+    ensures all { OnOk result (Appended (W.contents output.old) piece.now (W.contents output.new)) }
+    ensures partly { AppendedSome (W.contents output.old) piece.now (W.contents output.new) }
+{
+    let mut at = 0;
+    while at < piece.len() {
+        let count = print_some(output, &piece[at..])?;
+        if count == 0 {
+            return Err(io::Error::from(io::ErrorKind::WriteZero));
+        }
+        at += count;
+    }
     output.flush()
 }
 
-impl<'r, R: Files<File = File>, W: Write> Desk for FileDesk<'r, R, W> {
-    ghost state = { λ d. record {
-      reads = None;
-      may_leave = λ image. ⊥;
-      told = None;
-      moment = 0;
-      moments = λ t image text. ⊥;
-      disk_faults = d.disk_faults;
-      tell_faults = d.tell_faults;
-    } };
+impl<'r, R: Files<File = File>, W: SteadyWrite> Desk for FileDesk<'r, R, W> {
+    ghost use Rattle.file_desk.specs.Printed.{desk_of, lawful};
+
+    ghost state = { λ d. desk_of (W.contents d.output) d.disk_faults d.tell_faults };
 
     fn len(&mut self) -> Result<u64, DiskFailed> {
         disk_answer(self.file.len(), &mut self.disk_faults)
@@ -108,10 +127,5 @@ impl<'r, R: Files<File = File>, W: Write> Desk for FileDesk<'r, R, W> {
         tell_answer(print(&mut self.output, piece), &mut self.tell_faults)
     }
 
-    ghost lawful = { λ d. record {
-      counts_now = λ t image text le now. now.0;
-      only_now = λ image text at. absurd at;
-      leaves_bytes = λ image leaves. absurd leaves;
-      read_is_left = tt;
-    } };
+    ghost lawful = { λ d. lawful (W.contents d.output) d.disk_faults d.tell_faults };
 }

@@ -5,6 +5,8 @@
 mod disk_file;
 mod file_desk;
 mod input_source;
+mod steady;
 
 pub use file_desk::FileDesk;
 pub use input_source::InputSource;
+pub use steady::{SteadyRead, SteadyWrite};
