@@ -8,6 +8,7 @@ mod entering;
 mod fields;
 mod saving;
 mod soundness;
+mod writing;
 
 pub use byte_fields::Stop;
 pub use checks::blocks_in;
@@ -16,3 +17,4 @@ pub use draft::{Draft, draft_of};
 pub use entering::genotypes_from;
 pub use fields::Found;
 pub use saving::Saving;
+pub use writing::{push_creature, push_each_genotype, push_each_saving};

@@ -1,7 +1,7 @@
 use Rattle.std.proofs.Common.{rules, ◌≡◌, ◌∙◌, ◌++◌, ℕ, ℤ, List, Ok, Err, append_assoc, to_z, of_z, w32}
 use Rattle.std.specs.Prelude.{OnOk}
 use Rattle.world_state.specs.StateBytes.{register_bytes, registers_bytes}
-use Rattle.world_core.proofs.state.push_registers.Goals as goal
+use Rattle.world_state.proofs.writing.push_registers.Goals as goal
 
 pub returns : goal.returns
 unfolding registers_bytes

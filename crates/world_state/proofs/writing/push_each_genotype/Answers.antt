@@ -2,7 +2,7 @@ use Rattle.std.proofs.Common.{◌+◌, ◌<◌, ◌^◌, ℕ, None, Some, arith,
 use Rattle.std.specs.Prelude.{IfSome, Option}
 use Rattle.tierra_model.specs.World.{genotype_at}
 use Rattle.tierra_model.proofs.BankIsGroups.{parent_at}
-use Rattle.world_core.proofs.state.push_each_genotype.Goals as goal
+use Rattle.world_state.proofs.writing.push_each_genotype.Goals as goal
 
 pub push_genotype-requires-clause-parent : goal.push_genotype-requires-clause-parent
 push_genotype-requires-clause-parent c =
