@@ -71,7 +71,9 @@ impl Places {
     }
 
     /// Notes that the record of a creature is at the place.
-    pub(crate) fn note(&mut self, id: u64, place: usize) {
+    pub(crate) fn note(&mut self, id: u64, place: usize)
+        ensures { self.new.ids ≡ self.old.ids }
+    {
         let slot = self.slot(id);
         if let Some(seen) = self.seen.get_mut(slot) {
             *seen = place.wrapping_add(self.left);
