@@ -120,9 +120,11 @@ module _ (c : Creature) (v : SoleFields) (n : ℕ) (r : IsReady c v n) where
   same_others k all =
       let id = (front w).id in
       let count : number_of_others id w.reaper + 1 ≡ length w.reaper =
-      omega (arith, others_and_own id w.reaper, runs.reaper id, runs.once id, front_here w runs) in
-      (omega (arith, all, count), let e : k - 1 ≡ number_of_others id w.reaper =
-          omega (arith, all, count) in e ∙ ap (λ (j : ℕ). number_of_others j w.reaper) same_id)
+      omega (arith, others_and_own id w.reaper, runs.reaper id, runs.once id, front_here w runs) in (
+        omega (arith, all, count),
+        let e : k - 1 ≡ number_of_others id w.reaper =
+            omega (arith, all, count) in e ∙ ap (λ (j : ℕ). number_of_others j w.reaper) same_id,
+      )
 
   pub same_victim : place_of_first_other (front w).id w.reaper ≡ place_of_first_other (front (put c w)).id w.reaper
   same_victim = ap (λ (j : ℕ). place_of_first_other j w.reaper) same_id

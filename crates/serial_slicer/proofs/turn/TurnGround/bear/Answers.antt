@@ -29,11 +29,11 @@ pub returns-clause-frame : goal.returns-clause-frame
 returns-clause-frame c =
     let t = c.args.self.now in
     on_ok_weaker c.bear-2.result (λ done. frame_after (event.Divide t.creature.ran t.creature.moved) t.sole.now c.bear-2.new.self t.sole.ghost_name done)
-        c.bear-2.ensures
+    c.bear-2.ensures
 
 pub returns-clause-ready : goal.returns-clause-ready
 returns-clause-ready c =
     let t = c.args.self.now in
     on_ok_weaker c.bear-2.result (λ done. λ n r. ready_after (event.Divide t.creature.ran t.creature.moved) t.creature c.bear.new.self t.sole.now
-        c.bear-2.new.self n 2 r (can_bear t.creature t.sole.now 2 c.requires.ready t.creature.ran t.creature.moved c.requires.held refl c.requires.ran)
-        (omega arith) (omega arith) c.bear.ensures done) c.bear-2.ensures
+    c.bear-2.new.self n 2 r (can_bear t.creature t.sole.now 2 c.requires.ready t.creature.ran t.creature.moved c.requires.held refl c.requires.ran)
+    (omega arith) (omega arith) c.bear.ensures done) c.bear-2.ensures

@@ -15,7 +15,7 @@ pub returns-clause-state : goal.returns-clause-state
 returns-clause-state c =
     let t = c.args.self.now in
     on_ok_weaker c.give_up-2.result (λ done. state_after t.creature t.sole.now 1 c.requires.ready (event.GiveUp) c.give_up.new.self c.give_up-2.new.self
-        c.give_up.ensures done) c.give_up-2.ensures
+    c.give_up.ensures done) c.give_up-2.ensures
 
 pub returns-clause-frame : goal.returns-clause-frame
 returns-clause-frame c =
@@ -26,13 +26,13 @@ pub returns-clause-ready : goal.returns-clause-ready
 returns-clause-ready c =
     let t = c.args.self.now in
     on_ok_weaker c.give_up-2.result (λ done. λ n r. ready_after (event.GiveUp) t.creature c.give_up.new.self t.sole.now c.give_up-2.new.self n 1 r
-        (can_give_up t.creature t.sole.now 1 c.requires.ready c.requires.held) (omega arith) (omega arith) c.give_up.ensures done) c.give_up-2.ensures
+    (can_give_up t.creature t.sole.now 1 c.requires.ready c.requires.held) (omega arith) (omega arith) c.give_up.ensures done) c.give_up-2.ensures
 
 pub returns-clause-none : goal.returns-clause-none
 returns-clause-none c =
     let t = c.args.self.now in
     on_ok_weaker c.give_up-2.result (λ done.
     let after = ready_after event.GiveUp t.creature c.give_up.new.self t.sole.now c.give_up-2.new.self 0 1 c.requires.ready
-        (can_give_up t.creature t.sole.now 1 c.requires.ready c.requires.held)
+    (can_give_up t.creature t.sole.now 1 c.requires.ready c.requires.held)
     (omega arith) (omega arith) c.give_up.ensures done in
     ap (λ (x : Creature). x.daughter) (now c.give_up.new.self c.give_up-2.new.self 0 after ∙ c.give_up.ensures)) c.give_up-2.ensures

@@ -15,7 +15,7 @@ pub returns-clause-state : goal.returns-clause-state
 returns-clause-state c =
     let t = c.args.self.now in
     on_ok_weaker c.reap.result (λ done. state_after t.creature t.sole.now 0 c.requires.ready (event.Reap c.args.place) t.creature c.reap.new.self refl done)
-        c.reap.ensures
+    c.reap.ensures
 
 pub returns-clause-frame : goal.returns-clause-frame
 returns-clause-frame c =
@@ -26,14 +26,14 @@ pub returns-clause-ready : goal.returns-clause-ready
 returns-clause-ready c =
     let t = c.args.self.now in
     on_ok_weaker c.reap.result (λ done. λ n r. ready_after (event.Reap c.args.place) t.creature t.creature t.sole.now c.reap.new.self n 0
-        (fewer t.creature t.sole.now (n + 0) n (omega arith) r) (can_reap t.creature t.sole.now 0 c.requires.ready c.args.place c.requires.victim)
-        (omega arith) (omega arith) refl done) c.reap.ensures
+    (fewer t.creature t.sole.now (n + 0) n (omega arith) r) (can_reap t.creature t.sole.now 0 c.requires.ready c.args.place c.requires.victim)
+    (omega arith) (omega arith) refl done) c.reap.ensures
 
 pub returns-clause-front : goal.returns-clause-front
 returns-clause-front c =
     let t = c.args.self.now in
     on_ok_weaker c.reap.result (λ done.
     let after = ready_after (event.Reap c.args.place) t.creature t.creature t.sole.now c.reap.new.self 0 0 c.requires.ready
-        (can_reap t.creature t.sole.now 0 c.requires.ready c.args.place c.requires.victim)
+    (can_reap t.creature t.sole.now 0 c.requires.ready c.args.place c.requires.victim)
     (omega arith) (omega arith) refl done in
     now t.creature c.reap.new.self 0 after ∙ sym (now t.creature t.sole.now 0 c.requires.ready)) c.reap.ensures

@@ -17,14 +17,14 @@ pub err-requires : goal.err-requires
 err-requires g c =
     let t = c.args.self.now in
     erred_runs c.args.draws.now c.args.settings.now (t.sole.now.world.quanta + 1) c.args.i 0 t.creature c.step-act.new.creature t.sole.now c.step-act.new.view
-        c.step-act.result c.requires.ready c.requires.settings c.requires.draws
+    c.step-act.result c.requires.ready c.requires.settings c.requires.draws
     c.step-act.ensures.executes c.in-Erred.is
 
 pub returns-in-Erred-clause-step : goal.returns-in-Erred-clause-step
 returns-in-Erred-clause-step g c =
     let t = c.args.self.now in
     step_is c.args.draws.now c.args.settings.now (t.sole.now.world.quanta + 1) c.args.i 0 t.creature c.step-act.new.creature t.sole.now c.step-act.new.view
-        c.step-act.result c.requires.ready c.requires.settings c.requires.draws
+    c.step-act.result c.requires.ready c.requires.settings c.requires.draws
     c.step-act.ensures.executes
     c.err.new.self (erred_is c.step-act.result c.step-act.new.view c.err.new.self c.in-Erred.is c.err.ensures)
 
@@ -32,7 +32,7 @@ pub returns-in-Erred-clause-left : goal.returns-in-Erred-clause-left
 returns-in-Erred-clause-left g c =
     let t = c.args.self.now in
     step_left c.args.draws.now c.args.settings.now (t.sole.now.world.quanta + 1) c.args.i 0 t.creature c.step-act.new.creature t.sole.now c.step-act.new.view
-        c.step-act.result c.requires.ready c.requires.settings c.requires.draws
+    c.step-act.result c.requires.ready c.requires.settings c.requires.draws
     c.step-act.ensures.executes
     c.err.new.self (erred_is c.step-act.result c.step-act.new.view c.err.new.self c.in-Erred.is c.err.ensures) c.step-act.ensures.ready c.step-act.ensures.after
 
@@ -40,7 +40,7 @@ pub returns-in-Erred-clause-frame : goal.returns-in-Erred-clause-frame
 returns-in-Erred-clause-frame g c =
     let t = c.args.self.now in
     step_frame c.args.draws.now c.args.settings.now (t.sole.now.world.quanta + 1) c.args.i 0 t.creature c.step-act.new.creature t.sole.now c.step-act.new.view
-        c.step-act.result c.requires.ready c.requires.settings c.requires.draws
+    c.step-act.result c.requires.ready c.requires.settings c.requires.draws
     c.step-act.ensures.executes
     c.err.new.self (erred_is c.step-act.result c.step-act.new.view c.err.new.self c.in-Erred.is c.err.ensures) t.sole.ghost_name
 
@@ -48,7 +48,7 @@ pub returns-in-Erred-clause-ready : goal.returns-in-Erred-clause-ready
 returns-in-Erred-clause-ready g c = λ n r.
     let t = c.args.self.now in
     step_ready c.args.draws.now c.args.settings.now (t.sole.now.world.quanta + 1) c.args.i n t.creature c.step-act.new.creature t.sole.now c.step-act.new.view
-        c.step-act.result r c.requires.settings c.requires.draws
+    c.step-act.result r c.requires.settings c.requires.draws
     c.step-act.ensures.executes
     c.err.new.self (erred_is c.step-act.result c.step-act.new.view c.err.new.self c.in-Erred.is c.err.ensures) c.step-act.ensures.ready c.step-act.ensures.after
 
@@ -56,7 +56,7 @@ pub returns-in_default-clause-step : goal.returns-in_default-clause-step
 returns-in_default-clause-step g c =
     let t = c.args.self.now in
     step_is c.args.draws.now c.args.settings.now (t.sole.now.world.quanta + 1) c.args.i 0 t.creature c.step-act.new.creature t.sole.now c.step-act.new.view
-        c.step-act.result c.requires.ready c.requires.settings c.requires.draws
+    c.step-act.result c.requires.ready c.requires.settings c.requires.draws
     c.step-act.ensures.executes
     c.step-act.new.view (none_is c.step-act.result c.step-act.new.view c.in_default.not-Erred)
 
@@ -64,7 +64,7 @@ pub returns-in_default-clause-left : goal.returns-in_default-clause-left
 returns-in_default-clause-left g c =
     let t = c.args.self.now in
     step_left c.args.draws.now c.args.settings.now (t.sole.now.world.quanta + 1) c.args.i 0 t.creature c.step-act.new.creature t.sole.now c.step-act.new.view
-        c.step-act.result c.requires.ready c.requires.settings c.requires.draws
+    c.step-act.result c.requires.ready c.requires.settings c.requires.draws
     c.step-act.ensures.executes
     c.step-act.new.view (none_is c.step-act.result c.step-act.new.view c.in_default.not-Erred) c.step-act.ensures.ready c.step-act.ensures.after
 
@@ -72,7 +72,7 @@ pub returns-in_default-clause-frame : goal.returns-in_default-clause-frame
 returns-in_default-clause-frame g c =
     let t = c.args.self.now in
     step_frame c.args.draws.now c.args.settings.now (t.sole.now.world.quanta + 1) c.args.i 0 t.creature c.step-act.new.creature t.sole.now c.step-act.new.view
-        c.step-act.result c.requires.ready c.requires.settings c.requires.draws
+    c.step-act.result c.requires.ready c.requires.settings c.requires.draws
     c.step-act.ensures.executes
     c.step-act.new.view (none_is c.step-act.result c.step-act.new.view c.in_default.not-Erred) t.sole.ghost_name
 
@@ -80,6 +80,6 @@ pub returns-in_default-clause-ready : goal.returns-in_default-clause-ready
 returns-in_default-clause-ready g c = λ n r.
     let t = c.args.self.now in
     step_ready c.args.draws.now c.args.settings.now (t.sole.now.world.quanta + 1) c.args.i n t.creature c.step-act.new.creature t.sole.now c.step-act.new.view
-        c.step-act.result r c.requires.settings c.requires.draws
+    c.step-act.result r c.requires.settings c.requires.draws
     c.step-act.ensures.executes
     c.step-act.new.view (none_is c.step-act.result c.step-act.new.view c.in_default.not-Erred) c.step-act.ensures.ready c.step-act.ensures.after
