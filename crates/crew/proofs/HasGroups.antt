@@ -1,6 +1,6 @@
 -- Which groups a hand has.
 use Rattle.std.proofs.Common.{◌≡◌, ℕ, ◌+◌, ◌-◌, ◌≤◌, List, [], refl, sym, ◌∙◌, ap, arith, inl, inr, length, drop, length-append, length-drop}
-use Rattle.std.specs.Prelude.{IfSome, None, Option, Some, is_some, max, true}
+use Rattle.std.specs.Prelude.{max}
 use Rattle.std.proofs.lemmas.Bool.{cases_lt}
 use Rattle.std.proofs.lemmas.List.{drop_all}
 use Rattle.tierra_model.specs.declared.limits.TheConstants.{MOST_QUANTA}
@@ -46,19 +46,10 @@ all_groups setup c done groups is = omega (arith, ap length is, length-drop done
 pub has_all : (setup : SetupFields) (c done : ℕ) (groups : List GroupFields) → groups ≡ drop done (run_bank setup c) → HasGroups setup c (done + length groups)
 has_all setup c done groups is = omega (arith, all_groups setup c done groups is)
 
--- more groups are no loss
-pub has_more : (setup : SetupFields) (n kept done more : ℕ) → HasGroupsOf setup n kept done → HasGroupsOf setup n kept (done + more)
-has_more setup n kept done more has is m within saved = omega (arith, has is m within saved)
+-- more groups, or fewer savings, are no loss
+pub has_still : (setup : SetupFields) (n kept saved done more : ℕ) → saved ≤ kept → HasGroupsOf setup n kept done → HasGroupsOf setup n saved (done + more)
+has_still setup n kept saved done more less has is m within few = omega (arith, has is m within (omega (arith, few, less)))
 
 -- while nothing is saved, no group is lacking
 pub has_at_first : (setup : SetupFields) (n done : ℕ) → HasGroupsOf setup n 0 done
 has_at_first setup n done is m within saved = omega (arith, ap length (none_saved setup m saved))
-
--- what was put are the groups that were committed
-pub all_put : (setup : SetupFields) (committed seen done new halts : ℕ) (groups : Option (List GroupFields)) → is_some groups ≡ true
-    → IfSome groups (λ g. g ≡ drop done (run_bank setup committed)) → IfSome groups (λ g. halts ≡ 0 → new ≡ done + length g) → halts ≡ 0 → seen ≡ committed
-    → HasGroups setup seen new
-all_put setup committed seen done new halts None some is put unhalted same = absurd (let n : ⊥ = cc in n)
-all_put setup committed seen done new halts (Some g) some is put unhalted same =
-    let all = has_all setup committed done g is in
-    omega (arith, all, put unhalted, ap (λ (k : ℕ). length (run_bank setup k)) same)

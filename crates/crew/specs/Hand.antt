@@ -4,8 +4,10 @@ use Rattle.tierra_model.specs.Genebank.{bank}
 use Rattle.tierra_model.specs.Groups.{GroupFields}
 use Rattle.tierra_model.specs.Serial.{serial}
 use Rattle.tierra_model.specs.Setups.{IsSetup, SetupFields}
+use Rattle.commit_book.specs.Book.{BookFields}
 use Rattle.crew.specs.declared.hand.Next.{Next}
 use Rattle.crew.specs.declared.hand.Next.TheVariants as next
+use Rattle.crew.specs.declared.handing.Fresh.{Fresh}
 
 abbrev pub OnGo : Next → Type 0 → Type 0
 OnGo next.Go P = P
@@ -36,6 +38,13 @@ HasGroups setup n done = length (run_bank setup n) ≤ done
 abbrev pub HasGroupsOf : SetupFields → ℕ → ℕ → ℕ → Type 0
 HasGroupsOf setup n kept done =
     IsSetup setup → (m : ℕ) → m ≤ n → length (serial setup m).saved ≤ kept → HasGroups setup m done
+
+-- what is taken out of the book for a hand that has k groups: those that it lacks, and how many genotypes are saved by
+-- then
+pub record IsFresh (b : BookFields) (k : ℕ) (fresh : Fresh) : Type 0 where
+  pub groups : fresh.groups ≡ drop k (run_bank b.setup b.committed)
+  pub next : AreNext b.setup b.quanta k fresh.groups
+  pub saved : HasGroupsOf b.setup b.quanta fresh.saved (k + length fresh.groups)
 
 -- it has halted exactly where the answer is Halt
 abbrev pub HandsBy : {E : Type 0} → Result Next E → ℕ → Type 0

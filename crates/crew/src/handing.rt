@@ -1,9 +1,9 @@
 //! Groups of the genebank on their way from the book to the hand.
 
-ghost use Rattle.std.specs.Prelude.{◌≡◌, ◌+◌, ◌≤◌, IfOk, IfSome, None, OnErr, drop, length, max};
+ghost use Rattle.std.specs.Prelude.{◌≡◌, ◌≤◌, IfOk, drop, length, max};
 ghost use Rattle.tierra_model.specs.declared.limits.TheConstants.{MOST_QUANTA};
 ghost use Rattle.tierra_model.specs.Setups.{IsSetup};
-ghost use Rattle.crew.specs.Hand.{AreNext, HandsBy, HaltsBy, HasGroupsOf, IsUnhalted, OnGo, run_bank};
+ghost use Rattle.crew.specs.Hand.{AreNext, HandsBy, HasGroupsOf, IsFresh, IsUnhalted, OnGo, run_bank};
 
 use crate::hand::{Hand, Next};
 use commit_book::Book;
@@ -30,51 +30,34 @@ pub(crate) fn new_groups(alloc: Global, book: &Book, done: u64) -> Result<Groups
     book.groups_from(alloc, done)
 }
 
-// The same groups. If the world has saved no more than `kept` genotypes, there are none. Else `kept` becomes the number
-// that it has saved.
-pub(crate) fn groups_since(
+/// Groups that a hand lacks.
+#[derive(Drop)]
+pub(crate) struct Fresh {
+    pub groups: Groups,
+    /// How many genotypes are saved by then.
+    pub saved: u64,
+}
+
+// The same groups. If the world has saved no more than `kept` genotypes, there are none.
+pub(crate) fn fresh_groups(
     alloc: Global,
     book: &Book,
     done: u64,
-    kept: &mut u64,
-) -> Result<Groups, OutOfMemory>
-    requires { HasGroupsOf book.now.setup book.now.quanta kept.old done }
-    ensures groups { IfOk result (λ g. g ≡ drop done (run_bank book.now.setup book.now.committed)) }
-    ensures next { IfOk result (AreNext book.now.setup book.now.quanta done) }
-    ensures kept { IfOk result (λ g. HasGroupsOf book.now.setup book.now.quanta kept.new (done + length g)) }
-    ensures refused { OnErr result (kept.new ≡ kept.old) }
+    kept: u64,
+) -> Result<Fresh, OutOfMemory>
+    requires { HasGroupsOf book.now.setup book.now.quanta kept done }
+    ensures { IfOk result (IsFresh book.now done) }
 {
     is_run(book);
     let saved = book.world().kept();
-    if saved <= *kept {
-        return Ok(Groups {
+    if saved <= kept {
+        let groups = Groups {
             items: Vec::new(alloc),
-        });
+        };
+        return Ok(Fresh { groups, saved });
     }
     let groups = new_groups(alloc, book, done)?;
-    *kept = saved;
-    Ok(groups)
-}
-
-// Hands the groups over, if there are any.
-pub(crate) fn hand_over<H: Hand>(hand: &mut H, groups: Option<Groups>) -> Next
-    requires unhalted { H.halts hand.old ≡ 0 }
-    requires can { H.can_put hand.old }
-    requires next { IfSome groups (AreNext (H.setup hand.old) (H.quanta hand.old) (H.done hand.old)) }
-    requires within { H.done hand.old ≤ length (run_bank (H.setup hand.old) (H.quanta hand.old)) }
-    ensures setup { H.setup hand.new ≡ H.setup hand.old }
-    ensures quanta { H.quanta hand.new ≡ H.quanta hand.old }
-    ensures halts { HaltsBy result (H.halts hand.new) }
-    ensures done { IfSome groups (λ g. H.halts hand.new ≡ 0 → H.done hand.new ≡ H.done hand.old + length g) }
-    ensures none { groups ≡ None → H.done hand.new ≡ H.done hand.old }
-    ensures within { H.halts hand.new ≡ 0 → H.done hand.new ≤ length (run_bank (H.setup hand.new) (H.quanta hand.new)) }
-    ensures can { H.halts hand.new ≡ 0 → H.can_put hand.new }
-    ensures later { H.goes_to hand.old hand.new }
-{
-    match groups {
-        Some(groups) => hand.put(groups),
-        None => Next::Go,
-    }
+    Ok(Fresh { groups, saved })
 }
 
 // Hands over all groups of the book's world from the hand's place on.

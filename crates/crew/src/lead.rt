@@ -1,144 +1,72 @@
-//! Worker 1, who hands over new groups between its turns.
+//! The errand of worker 1, who hands new groups over between its turns.
 
-ghost use Rattle.std.specs.Prelude.{◌≡◌, ◌+◌, ◌*◌, ◌<◌, ◌≤◌, ◌^◌, IsTrue, length};
-ghost use Rattle.tierra_model.specs.declared.limits.TheConstants.{MOST_QUANTA};
-ghost use Rattle.crew.specs.Hand.{HasGroups, HasGroupsOf, IsUnhalted, WasLed, run_bank};
-ghost use Rattle.crew.specs.Works.{HasWorked};
+ghost use Rattle.std.specs.Prelude.{◌≡◌};
+ghost use Rattle.crew.specs.Hand.{HasGroups, HasGroupsOf, IsFresh, IsUnhalted, WasLed};
 
-use crate::gate::Gate;
+use crate::errand::Errand;
 use crate::hand::{Hand, Next};
-use crate::handing::{groups_since, hand_over};
-use crate::trial::Stay;
-use crate::turns::{Served, finding_of, serve};
+use crate::handing::{Fresh, fresh_groups};
 use commit_book::Book;
-use quantum_run::{Finding, Workspace};
 use std::alloc::Global;
-use std::sync::Wait;
-use turn_lock::{Seat, TurnLock};
+use tierra_model::OutOfMemory;
 
-// What a turn of worker 1 gave.
+/// Hands over the groups that the book has and the hand has not.
 #[derive(Drop)]
-struct LeadTurned {
-    seat: Seat,
-    served: Served,
-    quanta: u64,
-    // What the hand answered.
-    next: Next,
-    // Whether there was memory for the groups that it lacked.
-    has_groups: bool,
+pub(crate) struct Handover<'h, H> {
+    pub hand: &'h mut H,
+    /// The hand has those of all quanta by which this many genotypes are saved.
+    pub kept: u64,
 }
 
-// Takes a turn, in which a finding is offered and a job claimed, and then hands over the groups that the book has and
-// the hand has not. The hand has those of all quanta by which `kept` genotypes are saved.
-fn lead_turn<R: Wait, H: Hand>(
-    rt: &R,
-    alloc: Global,
-    lock: &TurnLock<Book>,
-    seat: Seat,
-    stay: Stay,
-    finding: Option<Finding>,
-    hand: &mut H,
-    kept: &mut u64,
-) -> LeadTurned
-    requires lock { seat.lock ≡ lock.now }
-    requires room { seat.turns < 2 ^ 40 }
-    requires hand { IsUnhalted lock.now.opening.setup (H.setup hand.old) (H.quanta hand.old)
-        (H.done hand.old) (H.halts hand.old) (H.can_put hand.old) }
-    requires kept { HasGroupsOf (H.setup hand.old) (H.quanta hand.old) kept.old (H.done hand.old) }
-    ensures worked { HasWorked 1 seat result.seat }
-    ensures few { result.quanta ≤ MOST_QUANTA }
-    ensures hand { WasLed result.next (H.setup hand.old) (H.setup hand.new) (H.quanta hand.old) (H.quanta hand.new)
-        (H.done hand.new) (H.halts hand.new) (H.can_put hand.new) (H.goes_to hand.old hand.new) }
-    ensures kept { H.halts hand.new ≡ 0
-        → HasGroupsOf (H.setup hand.new) (H.quanta hand.new) kept.new (H.done hand.new) }
+impl<H: Hand> Errand for Handover<'_, H> {
+    ghost use Rattle.std.proofs.Common.{refl, ◌∙◌};
 
-    // No group that was committed by then waits for the next turn.
-    ensures groups { IsTrue result.has_groups → H.halts hand.new ≡ 0
-        → HasGroups (H.setup hand.new) result.seat.seen (H.done hand.new) }
-{
-    let caller = seat.caller();
-    let (turn, mut book) = lock.take(rt, seat);
-    let quanta = book.quanta();
-    let served = serve(alloc, &mut book, caller, stay, finding);
-    let groups = groups_since(alloc, &book, hand.done(), kept).ok();
-    let seat = lock.give(turn, book);
-    let has_groups = groups.is_some();
-    let next = hand_over(hand, groups);
-    LeadTurned {
-        seat,
-        served,
-        quanta,
-        next,
-        has_groups,
+    type Load = Fresh;
+
+    ghost is_ready = { λ run e. IsUnhalted run (H.setup e.hand.now) (H.quanta e.hand.now) (H.done e.hand.now)
+        (H.halts e.hand.now) (H.can_put e.hand.now)
+        × HasGroupsOf (H.setup e.hand.now) (H.quanta e.hand.now) e.kept (H.done e.hand.now) };
+
+    ghost is_load = { λ book e fresh. IsFresh book (H.done e.hand.now) fresh };
+
+    ghost went = { λ answer a b. (b.hand.ghost_name ≡ a.hand.ghost_name)
+        × WasLed answer (H.setup a.hand.now) (H.setup b.hand.now) (H.quanta a.hand.now) (H.quanta b.hand.now)
+        (H.done b.hand.now) (H.halts b.hand.now) (H.can_put b.hand.now) (H.goes_to a.hand.now b.hand.now) };
+
+    // No group of theirs waits.
+    ghost has_done = { λ n e. HasGroups (H.setup e.hand.now) n (H.done e.hand.now) };
+
+    fn load(&self, alloc: Global, book: &Book) -> Result<Fresh, OutOfMemory> {
+        fresh_groups(alloc, book, self.hand.done(), self.kept)
     }
-}
 
-// Stops the book.
-fn stop<R: Wait>(rt: &R, lock: &TurnLock<Book>, seat: Seat) -> Seat
-    requires lock { seat.lock ≡ lock.now }
-    requires room { seat.turns < 2 ^ 40 }
-    ensures { HasWorked 1 seat result }
-{
-    let (turn, mut book) = lock.take(rt, seat);
-    book.stop();
-    lock.give(turn, book)
-}
-
-// What worker 1 leaves: its seat, and whether the hand halted.
-#[derive(Drop)]
-pub(crate) struct Led {
-    pub seat: Seat,
-    pub next: Next,
-}
-
-/// Works as each worker does, and hands new groups over between its turns. Where the hand halts, it stops the book.
-pub(crate) fn lead<R: Wait, G: Gate, H: Hand>(
-    rt: &R,
-    alloc: Global,
-    lock: &TurnLock<Book>,
-    seat: Seat,
-    gate: &G,
-    stay: Stay,
-    hand: &mut H,
-) -> Led
-    requires lock { seat.lock ≡ lock.now }
-    requires room { seat.turns < 2 ^ 39 }
-    requires unhalted { H.halts hand.old ≡ 0 }
-    requires can { H.can_put hand.old }
-    requires setup { lock.now.opening.setup ≡ (H.setup hand.old, H.quanta hand.old) }
-    requires within { H.done hand.old ≤ length (run_bank (H.setup hand.old) (H.quanta hand.old)) }
-    ensures worked { HasWorked (2 * MOST_QUANTA + 4) seat result.seat }
-    ensures hand { WasLed result.next (H.setup hand.old) (H.setup hand.new) (H.quanta hand.old) (H.quanta hand.new)
-        (H.done hand.new) (H.halts hand.new) (H.can_put hand.new) (H.goes_to hand.old hand.new) }
-{
-    let worker = seat.caller();
-    let mut workspace = Workspace::new(alloc);
-    let mut kept = 0;
-    let mut turned = lead_turn(rt, alloc, lock, seat, stay, None, hand, &mut kept);
-    for _ in 0..2 * turned.quanta + 1 {
-        let LeadTurned {
-            seat,
-            served,
-            next,
-            ..
-        } = turned;
-        if next == Next::Halt {
-            let seat = stop(rt, lock, seat);
-            return Led { seat, next };
-        }
-        let Some(job) = served.job else {
-            return Led { seat, next };
-        };
-        let quantum = job.quantum();
-        gate.before(worker, quantum);
-        let finding = finding_of(&mut workspace, job);
-        turned = lead_turn(rt, alloc, lock, seat, stay, finding, hand, &mut kept);
-        if turned.served.offered {
-            gate.after(worker, quantum);
-        }
+    fn run(&mut self, load: Fresh) -> Next {
+        let Fresh { groups, saved } = load;
+        self.kept = saved;
+        self.hand.put(groups)
     }
-    Led {
-        seat: turned.seat,
-        next: turned.next,
-    }
+
+    ghost stays = { λ run e ready. (
+      refl,
+      record {
+        setup = refl;
+        quanta = refl;
+        halts = ready.0.unhalted;
+        within = λ unhalted. ready.0.within;
+        can = λ unhalted. ready.0.can;
+        later = H.stays e.hand.now;
+      },
+    ) };
+
+    ghost goes_on = { λ answer a b c p q. (
+      q.0 ∙ p.0,
+      record {
+        setup = q.1.setup ∙ p.1.setup;
+        quanta = q.1.quanta ∙ p.1.quanta;
+        halts = q.1.halts;
+        within = q.1.within;
+        can = q.1.can;
+        later = H.goes_on _ _ _ p.1.later q.1.later;
+      },
+    ) };
 }

@@ -7,6 +7,7 @@
 
 mod alone;
 mod beside;
+mod errand;
 mod exchange;
 mod gate;
 mod hand;

@@ -1,20 +1,21 @@
 //! The crew.
 
-ghost use Rattle.std.specs.Prelude.{◌≡◌, ◌+◌, ◌-◌, ◌<◌, ◌≤◌, IfOk, OnErr, OnOk, length, true};
+ghost use Rattle.std.specs.Prelude.{◌≡◌, ◌+◌, ◌<◌, ◌≤◌, IfOk, OnErr, OnOk, length, true};
 ghost use Rattle.tierra_model.specs.declared.limits.TheConstants.{MOST_WORKERS};
 ghost use Rattle.std.specs.Thread.{IsSync};
 ghost use Rattle.crew.specs.Beside.{IsOfRun};
-ghost use Rattle.crew.specs.Hand.{IsUnhalted, WasLed, run_bank};
+ghost use Rattle.crew.specs.Hand.{IsUnhalted, run_bank};
 ghost use Rattle.crew.specs.Ran.{HaltsAsIn, IfEnded, IfHalted};
 ghost use Rattle.crew.specs.Works.{IsFirst, IsOther, IsThere, SpeaksFrom};
 
 use crate::alone::{halted, run_alone};
 use crate::beside::{Left, run_beside};
+use crate::errand::{Errand, NoErrand};
 use crate::gate::Gate;
 use crate::hand::{Hand, Next};
-use crate::lead::{Led, lead};
+use crate::lead::Handover;
 use crate::trial::Stay;
-use crate::worker::work_while;
+use crate::worker::{Crew, Worked, work_with};
 use commit_book::Book;
 use std::alloc::Global;
 use std::marker::Brand;
@@ -33,25 +34,6 @@ pub enum Ran {
     OutOfMemory,
 }
 
-// Takes the seat, and works.
-fn work_with<R: Wait, G: Gate>(
-    rt: &R,
-    alloc: Global,
-    lock: &TurnLock<Book>,
-    caller: u32,
-    seat: &mut Option<Seat>,
-    gate: &G,
-    stay: Stay,
-) -> Seat
-    requires { IsThere seat.old (IsOther lock.now caller) }
-    ensures { IsOther lock.now caller (record result { turns = 0 }) }
-{
-    let Some(seat) = seat.take() else {
-        unreachable!()
-    };
-    work_while(rt, alloc, lock, seat, gate, stay)
-}
-
 /// A seat for the next caller, split off from the seat of worker 1.
 pub fn seat_for(lock: &TurnLock<Book>, first: &mut Seat, caller: u32) -> Result<Seat, OutOfMemory>
     requires first { IsFirst lock.now caller first.old }
@@ -63,69 +45,60 @@ pub fn seat_for(lock: &TurnLock<Book>, first: &mut Seat, caller: u32) -> Result<
     lock.split(first, caller)
 }
 
-// Runs worker 1 and the workers from `caller` on.
-fn crew_from<R: Threads + Wait + Sync, G: Gate + Sync, H: Hand>(
-    rt: &R,
-    alloc: Global,
-    lock: &TurnLock<Book>,
+// Takes a worker's seat, and works.
+fn work_on<R: Wait, G: Gate>(crew: &Crew<'_, R, G>, caller: u32, seat: &mut Option<Seat>) -> Seat
+    requires { IsThere seat.old (IsOther crew.now.lock.now caller) }
+    ensures { IsOther crew.now.lock.now caller (record result { turns = 0 }) }
+{
+    let Some(seat) = seat.take() else {
+        unreachable!()
+    };
+    work_with(crew, seat, &mut NoErrand).seat
+}
+
+// Runs worker 1 with its errand, and beside it the workers from `caller` on, as far as there is memory for their seats.
+// The seat of worker 1 comes back, joined with theirs.
+fn crew_from<R: Threads + Wait + Sync, G: Gate + Sync, E: Errand>(
+    crew: &Crew<'_, R, G>,
     first: &mut Option<Seat>,
     caller: u32,
     workers: u32,
-    gate: &G,
-    stay: Stay,
-    hand: &mut H,
-) -> Led
-    requires seat { IsThere first.old (IsFirst lock.now caller) }
+    errand: &mut E,
+) -> Worked
+    requires seat { IsThere first.old (IsFirst crew.now.lock.now caller) }
     requires callers { (2 ≤ caller) × (caller ≤ workers + 1) × (workers ≤ MOST_WORKERS) }
-    requires hand { IsUnhalted lock.now.opening.setup (H.setup hand.old) (H.quanta hand.old)
-        (H.done hand.old) (H.halts hand.old) (H.can_put hand.old) }
-    ensures seat { SpeaksFrom caller lock.now result.seat }
-    ensures hand { WasLed result.next (H.setup hand.old) (H.setup hand.new) (H.quanta hand.old) (H.quanta hand.new)
-        (H.done hand.new) (H.halts hand.new) (H.can_put hand.new) (H.goes_to hand.old hand.new) }
+    requires ready { E.is_ready crew.now.lock.now.opening.setup errand.old }
+    ensures seat { SpeaksFrom caller crew.now.lock.now result.seat }
+    ensures went { E.went result.outcome.next errand.old errand.new }
 {
     let Some(mut seat) = first.take() else {
         unreachable!()
     };
     if caller > workers {
-        return lead(rt, alloc, lock, seat, gate, stay, hand);
+        return work_with(crew, seat, errand);
     }
-    let Ok(other) = seat_for(lock, &mut seat, caller) else {
-        return lead(rt, alloc, lock, seat, gate, stay, hand);
+    let Ok(other) = seat_for(crew.lock, &mut seat, caller) else {
+        return work_with(crew, seat, errand);
     };
     let mut theirs = Some(other);
     let mut mine = Some(seat);
-    let (other, led) = join_mut(
-        rt,
+    let (other, worked) = join_mut(
+        crew.rt,
         &mut || -> Seat
-            requires { (IsSync R.row × IsSync G.row) × IsThere theirs (IsOther lock.now caller) }
-            ensures { IsOther lock.entry.now caller (record result { turns = 0 }) }
-        { work_with(rt, alloc, lock, caller, &mut theirs, gate, stay) },
-        &mut || -> Led
-            requires { (IsSync R.row × IsSync G.row) × IsThere mine (IsFirst lock.now (caller + 1))
+            requires { (IsSync R.row × IsSync G.row) × IsThere theirs (IsOther crew.now.lock.now caller) }
+            ensures { IsOther crew.entry.now.lock.now caller (record result { turns = 0 }) }
+        { work_on(crew, caller, &mut theirs) },
+        &mut || -> Worked
+            requires { (IsSync R.row × IsSync G.row) × IsThere mine (IsFirst crew.now.lock.now (caller + 1))
                 × ((2 ≤ caller) × (caller ≤ workers) × (workers ≤ MOST_WORKERS))
-                × IsUnhalted lock.now.opening.setup (H.setup hand.now) (H.quanta hand.now)
-                (H.done hand.now) (H.halts hand.now) (H.can_put hand.now) }
-            ensures { SpeaksFrom (caller + 1) lock.entry.now result.seat
-                × WasLed result.next (H.setup hand.entry.now) (H.setup hand.exit.now)
-                (H.quanta hand.entry.now) (H.quanta hand.exit.now) (H.done hand.exit.now) (H.halts hand.exit.now)
-                (H.can_put hand.exit.now) (H.goes_to hand.entry.now hand.exit.now) }
-        {
-            crew_from(
-                rt,
-                alloc,
-                lock,
-                &mut mine,
-                caller + 1,
-                workers,
-                gate,
-                stay,
-                hand,
-            )
-        },
+                × E.is_ready crew.now.lock.now.opening.setup errand.now }
+            ensures { SpeaksFrom (caller + 1) crew.entry.now.lock.now result.seat
+                × E.went result.outcome.next errand.entry.now errand.exit.now }
+        { crew_from(crew, &mut mine, caller + 1, workers, errand) },
     );
-    Led {
-        seat: lock.join_seats(led.seat, other),
-        next: led.next,
+    Worked {
+        seat: crew.lock.join_seats(worked.seat, other),
+        outcome: worked.outcome,
     }
 }
 
@@ -163,11 +136,18 @@ pub fn run_crew<R: Threads + Wait + Sync, G: Gate + Sync, H: Hand>(
     let Ok((lock, first)) = TurnLock::of(alloc, book) else {
         return Ran::OutOfMemory;
     };
+    let crew = Crew {
+        rt,
+        alloc,
+        lock: &lock,
+        gate,
+        stay: Stay::ForTheTrial,
+    };
     let mut first = Some(first);
-    let stay = Stay::ForTheTrial;
-    let Led { seat, next } = crew_from(rt, alloc, &lock, &mut first, 2, workers, gate, stay, hand);
-    let book = lock.close(seat);
-    match next {
+    let mut handover = Handover { hand, kept: 0 };
+    let worked = crew_from(&crew, &mut first, 2, workers, &mut handover);
+    let book = lock.close(worked.seat);
+    match worked.outcome.next {
         Next::Go => run_rest(rt, alloc, book, workers, hand),
         Next::Halt => halted(book),
     }

@@ -1,19 +1,16 @@
 //! What a worker does with the book while it has it.
 
-ghost use Rattle.std.specs.Prelude.{◌≡◌, ◌<◌, ◌≤◌, ◌^◌, IsSome, IsTrue, false, true};
-ghost use Rattle.tierra_model.specs.declared.limits.TheConstants.{MOST_QUANTA, MOST_WORKERS};
+ghost use Rattle.std.specs.Prelude.{◌≡◌, ◌<◌, ◌≤◌, IsSome, IsTrue, false, true};
+ghost use Rattle.tierra_model.specs.declared.limits.TheConstants.{MOST_WORKERS};
 ghost use Rattle.commit_book.specs.Giving.{MayGive};
-ghost use Rattle.crew.specs.Works.{HasWorked};
 
 use crate::trial::Stay;
 use commit_book::{Advanced, Book, Claim};
 use quantum_run::{Finding, Job, Workspace};
 use std::alloc::Global;
 use std::marker::Brand;
-use std::sync::Wait;
 use std::sync::ledger::{Blank, Ledger};
 use step_count::Steps;
-use turn_lock::{Seat, TurnLock};
 
 // The finding of a job, where there is memory for it.
 pub(crate) fn finding_of(workspace: &mut Workspace, job: Job) -> Option<Finding> {
@@ -106,39 +103,4 @@ fn next_job<L: Ledger>(alloc: Global, book: &mut Book, by: u32, steps: &mut Step
         }
     }
     None
-}
-
-// What a turn gave.
-#[derive(Drop)]
-pub(crate) struct Turned {
-    pub seat: Seat,
-    pub served: Served,
-    pub quanta: u64,
-}
-
-// Takes a turn, in which a finding is offered and a job claimed.
-pub(crate) fn turn<R: Wait>(
-    rt: &R,
-    alloc: Global,
-    lock: &TurnLock<Book>,
-    seat: Seat,
-    stay: Stay,
-    finding: Option<Finding>,
-) -> Turned
-    requires lock { seat.lock ≡ lock.now }
-    requires room { seat.turns < 2 ^ 40 }
-    ensures worked { HasWorked 1 seat result.seat }
-    ensures quanta { result.quanta ≡ lock.now.opening.setup.1 }
-    ensures few { result.quanta ≤ MOST_QUANTA }
-{
-    let caller = seat.caller();
-    let (turn, mut book) = lock.take(rt, seat);
-    let quanta = book.quanta();
-    let served = serve(alloc, &mut book, caller, stay, finding);
-    let seat = lock.give(turn, book);
-    Turned {
-        seat,
-        served,
-        quanta,
-    }
 }
