@@ -75,7 +75,7 @@ pub(crate) fn work_some<T: Tape>(
     Ok(worked)
 }
 
-// The same, with an account of the instructions that only contracts see.
+// Commits these quanta, with an account of the instructions that only contracts see.
 fn counted_work<L: Ledger, T: Tape>(
     alloc: Global,
     book: Book,

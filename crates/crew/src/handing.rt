@@ -38,7 +38,7 @@ pub(crate) struct Fresh {
     pub saved: u64,
 }
 
-// The same groups. If the world has saved no more than `kept` genotypes, there are none.
+// The groups of the book's world from place `done` on, or none if it has saved no more than `kept` genotypes.
 pub(crate) fn fresh_groups(
     alloc: Global,
     book: &Book,

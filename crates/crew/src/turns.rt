@@ -17,7 +17,7 @@ pub(crate) fn finding_of(workspace: &mut Workspace, job: Job) -> Option<Finding>
     counted_finding::<Brand>(workspace, job, Blank::new(1))
 }
 
-// The same, with an account of the instructions that only contracts see.
+// Runs a job, with an account of the instructions that only contracts see.
 fn counted_finding<L: Ledger>(workspace: &mut Workspace, job: Job, blank: Blank) -> Option<Finding>
     requires name { blank.name ≡ L.name }
     requires parts { blank.parts ≡ L.parts }
@@ -57,7 +57,7 @@ pub(crate) fn serve(
     counted_serve::<Brand>(alloc, book, by, stay, finding, Blank::new(1))
 }
 
-// The same with a book that is not stopped, and an account of the instructions that only contracts see.
+// Serves from a book that is not stopped, with an account of the instructions that only contracts see.
 fn counted_serve<L: Ledger>(
     alloc: Global,
     book: &mut Book,

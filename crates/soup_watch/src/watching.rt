@@ -268,7 +268,7 @@ fn advance_one(alloc: Global, book: &mut Book, by: u32) -> Result<(), OutOfMemor
     counted_advance::<Brand>(alloc, book, by, Blank::new(1))
 }
 
-// The same, with an account of the instructions that only contracts see.
+// Commits one more quantum, with an account of the instructions that only contracts see.
 fn counted_advance<L: Ledger>(
     alloc: Global,
     book: &mut Book,
