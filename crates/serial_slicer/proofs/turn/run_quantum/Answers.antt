@@ -1,10 +1,9 @@
-use Rattle.std.proofs.Common.{◌≡◌, ◌+◌, ◌*◌, ◌≤◌, ℕ, sym, ◌∙◌, ap, subst, arith}
+use Rattle.std.proofs.Common.{rules, ◌≡◌, ◌+◌, ◌*◌, ◌≤◌, ℕ, sym, ◌∙◌, ap, subst, arith}
 use Rattle.tierra_model.specs.declared.creatures.Creature.{Creature}
 use Rattle.tierra_model.specs.Quantum.{run, slice_of, world_machine}
 use Rattle.tierra_model.specs.World.{front}
 use Rattle.world_core.proofs.Within.{running-sound}
 use Rattle.quantum_core.specs.Frame.{Frame}
-use Rattle.serial_slicer.specs.Turns.{SoleFields}
 use Rattle.serial_slicer.proofs.Turns.{begun, begun_is, fits, quantum_is, runs, slice_few}
 use Rattle.serial_slicer.proofs.turn.run_quantum.Goals as goal
 
@@ -38,13 +37,12 @@ returns-clause-world g c =
     let began = begun_is w c.begin_turn-creature.result c.begin_turn-creature.new.self (running-sound w c.requires.sound) b.world b.record in
     let slice : n ≡ slice_of (front w).own.size s = c.slice_of-slice.ensures ∙ ap (λ (x : Creature). slice_of x.own.size s) b.record in
     let number : c.quanta-quantum.result + 1 ≡ w.quanta + 1 = ap (λ (k : ℕ). k + 1) c.quanta-quantum.ensures in
-    -- the world that was lent comes back
-    let back : c.sole-2-1.given.0 ≡ c.end_turn.new.self =
-    c.sole-2-1.given.1 (sym (ap (λ (f : Frame). f.lent) c.in_ok-run_slice.ensures.frame)) in
-    ap (λ (v : SoleFields). v.world) back
-    ∙ c.end_turn.ensures
+    let ended =
+    c.end_turn.ensures
     ∙ quantum_is s w _ (c.quanta-quantum.result + 1) n c.requires.settings number slice
-    (c.in_ok-run_slice.ensures.state ∙ ap (run world_machine s (c.quanta-quantum.result + 1) n) began)
+    (c.in_ok-run_slice.ensures.state ∙ ap (run world_machine s (c.quanta-quantum.result + 1) n) began) in
+    let lent = ap (λ (f : Frame). f.lent) c.in_ok-run_slice.ensures.frame in
+    search (rules, lent, ended)
 
 pub returns-clause-ticks : goal.returns-clause-ticks
 returns-clause-ticks g c =
