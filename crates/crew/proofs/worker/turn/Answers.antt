@@ -1,6 +1,6 @@
 use Rattle.std.proofs.Common.{rules, ◌≡◌, ◌∙◌, sym, subst, ℕ}
 use Rattle.tierra_model.specs.Setups.{SetupFields}
-use Rattle.crew.proofs.Seating.{may_give, turn_worked}
+use Rattle.crew.proofs.Seating.{may_give}
 use Rattle.crew.proofs.worker.turn.Goals as goal
 
 pub give-seat-requires-clause-value : goal.give-seat-requires-clause-value

@@ -1,4 +1,4 @@
-use Rattle.std.proofs.Common.{subst, sym, ap, ◌∙◌, ℕ, ◌+◌, length}
+use Rattle.std.proofs.Common.{subst, sym, ◌∙◌, ℕ, ◌+◌, length}
 use Rattle.tierra_model.specs.Setups.{SetupFields}
 use Rattle.crew.specs.Hand.{AreNext, HasGroups, HasGroupsOf}
 use Rattle.crew.proofs.Banks.{next-within}
