@@ -14,7 +14,7 @@ pub trait SteadyWrite: Write {
     ghost steady: { (a b : Self) → is_some (Self.contents a) ≡ is_some (Self.contents b) };
 }
 
-impl SteadyRead for StdinLock<'_> {
+impl SteadyRead for StdinLock<'static> {
     ghost steady = { λ a b. refl };
 }
 

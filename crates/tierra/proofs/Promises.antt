@@ -1,5 +1,5 @@
 -- The promises of a call, told of an input and an output in place of a source and a desk.
-use Rattle.std.proofs.Common.{◌≡◌, subst, ℕ, List, Option}
+use Rattle.std.proofs.Common.{◌≡◌, subst, ℕ, List, Option, Result, Ok, Err, IfOk}
 use Rattle.file_desk.specs.Printed.{desk_of}
 use Rattle.soup_top.specs.Answers.{OnUncalled}
 use Rattle.soup_top.specs.Calls.{Call}
@@ -36,7 +36,15 @@ as_told c A B f h p = record {
   };
   refusals = record {
     cause = p.refusals.cause;
-    complete = p.refusals.complete;
+    complete = λ order should none. p.refusals.complete order (record {
+      asked = should.asked;
+      bytes = should.bytes;
+      given = should.given;
+      text = should.text;
+      accepted = should.accepted;
+      run = should.run;
+      hold = should.hold;
+    }) (record { source = none.source; desk = none.desk });
   };
   output = record {
     prefix = p.output.prefix;
@@ -94,3 +102,9 @@ of_program words left input input_after n reads told output output_after a b dis
     let four = subst (λ x. KeepsPromises (made input 0 output x b)) a_is three in
     let five = subst (λ y. KeepsPromises (made input 0 output 0 y)) b_is four in
     as_told (made input 0 output 0 0) A B f h five
+
+-- what holds of the words holds of those that were given
+pub at_words : {T E X : Type 0} (words : Result T E) (f : T → X) (x : X) (P : X → Type 0) → IfOk words (λ all. x ≡ f all) → P x
+    → IfOk words (λ all. P (f all))
+at_words (Ok all) f x P is holds = subst P is holds
+at_words (Err e) f x P is holds = tt
