@@ -86,8 +86,8 @@ fn print_some<W: SteadyWrite>(output: &mut W, bytes: &[u8]) -> io::Result<usize>
     Err(io::Error::from(io::ErrorKind::Interrupted))
 }
 
-// Writes the piece, and flushes it. A failure leaves a beginning of the piece written.
-fn print<W: SteadyWrite>(output: &mut W, piece: &[u8]) -> io::Result<()>
+/// Writes the piece, and flushes it. A failure leaves a beginning of the piece written.
+pub fn print<W: SteadyWrite>(output: &mut W, piece: &[u8]) -> io::Result<()>
     ensures all { OnOk result (Appended (W.contents output.old) piece.now (W.contents output.new)) }
     ensures partly { AppendedSome (W.contents output.old) piece.now (W.contents output.new) }
 {

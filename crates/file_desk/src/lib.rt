@@ -7,6 +7,6 @@ mod file_desk;
 mod input_source;
 mod steady;
 
-pub use file_desk::FileDesk;
+pub use file_desk::{FileDesk, print};
 pub use input_source::InputSource;
 pub use steady::{SteadyRead, SteadyWrite};

@@ -2,7 +2,7 @@
 
 ghost use Rattle.std.specs.Prelude.{◌≡◌, is_some, refl};
 
-use std::io::{Print, Printer, Read, StdinLock, Write};
+use std::io::{Print, Printer, Read, Stderr, StdinLock, Write};
 
 /// A reader that always tells the bytes still to come, or never.
 pub trait SteadyRead: Read {
@@ -27,6 +27,10 @@ impl<I: SteadyRead> SteadyRead for &mut I {
 }
 
 impl<P: Print> SteadyWrite for Printer<'_, P> {
+    ghost steady = { λ a b. refl };
+}
+
+impl SteadyWrite for Stderr {
     ghost steady = { λ a b. refl };
 }
 

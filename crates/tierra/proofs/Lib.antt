@@ -1,1 +1,2 @@
+mod Promises
 mod Words
