@@ -28,6 +28,7 @@ as_told c A B f h p = record {
   };
   hold = record {
     resumed = p.hold.resumed;
+    last = p.hold.last;
     small = p.hold.small;
     checkpoints = p.hold.checkpoints;
   };
@@ -49,6 +50,7 @@ as_told c A B f h p = record {
   output = record {
     prefix = p.output.prefix;
     unfinished = p.output.unfinished;
+    telling = p.output.telling;
   };
   file = record {
     untouched = p.file.untouched;
