@@ -1,6 +1,7 @@
 -- Reading from left to right: a field gives a value and the bytes after it, or nothing.
 use Rattle.std.specs.Int.{Width, byte_len, from_be_bytes, w32, w64}
-use Rattle.std.specs.Prelude.{Bool, Err, List, None, Ok, Option, Result, Some, [], drop, false, if◌then◌else◌, length, nat_le, slice_index_or, suc}
+use Rattle.std.specs.Prelude.{Bool, Err, List, None, Ok, Option, Result, Some, [], drop, false, if◌then◌else◌}
+use Rattle.std.specs.Prelude.{length, nat_le, slice_index_or, suc}
 use Rattle.std.specs.Prelude.{take, true, zero, ℕ, ◌==◌, ◌∷◌, ◌≡◌}
 use Rattle.byte_fields.specs.declared.stop.Stop.{Stop}
 use Rattle.byte_fields.specs.declared.stop.Stop.TheVariants as stop

@@ -15,7 +15,7 @@ use crate::handing::new_groups;
 use crate::shelf::{BLOCK_QUANTA, Duties, Task};
 use crate::trial::Plan;
 use commit_book::Book;
-use mutation_streams::{TapeBlock, Draws, Tape};
+use mutation_streams::{Draws, Tape, TapeBlock};
 use std::alloc::Global;
 use std::marker::{Brand, PhantomData};
 use std::sync::Wait;

@@ -1,6 +1,6 @@
 //! Draws against words of ChaCha8 that another program worked out.
 
-use mutation_streams::{TapeBlock, Draws, TapeEntry, NoTape, Tape};
+use mutation_streams::{Draws, NoTape, Tape, TapeBlock, TapeEntry};
 use std::alloc::Global;
 use tierra_model::{OutOfMemory, Settings, defaults};
 

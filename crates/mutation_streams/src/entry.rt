@@ -49,7 +49,12 @@ impl Model for TapeEntry {
 
 impl TapeEntry {
     /// The entry of quantum `q`, for its first `reach` instructions.
-    pub fn of(alloc: Global, settings: &Settings, q: u64, reach: u32) -> Result<TapeEntry, OutOfMemory>
+    pub fn of(
+        alloc: Global,
+        settings: &Settings,
+        q: u64,
+        reach: u32,
+    ) -> Result<TapeEntry, OutOfMemory>
         ensures { IfOk result (λ e. e ≡ entry_of (draws_of settings.now q) reach) }
     {
         let mut draws = Draws::new(settings, q);

@@ -15,7 +15,8 @@ use Rattle.soup_top.specs.declared.status.Status.TheVariants as status
 use Rattle.soup_top.specs.declared.stop.RunStop.{RunStop}
 use Rattle.soup_top.specs.declared.stop.RunStop.TheVariants as stop
 use Rattle.soup_top.specs.Answers.{AskingCause, Cause, GivesNothingToWrite, OnBankRefused, OnDone, OnHoldRefused, OnStopped}
-use Rattle.soup_top.specs.Calls.{Call, ComesToSameEnd, HasRightText, IsQuiet, IsTellingAsked, AtEachMoment, KeepsLinesUp, LeavesTrueGenebank, OfFile, OfHolds, OfRuns}
+use Rattle.soup_top.specs.Calls.{Call, ComesToSameEnd, HasRightText, IsQuiet, IsTellingAsked, AtEachMoment, KeepsLinesUp, LeavesTrueGenebank, OfFile}
+use Rattle.soup_top.specs.Calls.{OfHolds, OfRuns}
 use Rattle.soup_top.specs.Calls.{ReadsTheSame, HasItsCause, SparesRefusedFile, TellsAsked, TellsNothing, TellsNothingElse, TellsWhatIsAsked}
 use Rattle.soup_top.specs.Checkpoints.{HasTrueMoments, HoldsSerial, IsHeldOn, IsLeftAlone, LeavesLast, Resumes}
 use Rattle.soup_top.specs.Ending.{HasMomentsFor, IsDoneFor, IsHoldRefusedFor, IsRefusedFor, IsStoppedFor}

@@ -121,7 +121,8 @@ pub record KeepsLinesUp (c : Call) : Type 0 where
 
 -- A run with checkpoints comes to the end of a run that never stopped.
 pub record ComesToSameEnd (c : Call) : Type 0 where
-  -- done, from a world of the serial run or from the start, it told a line for each later checkpoint and the serial run's report
+  -- done, from a world of the serial run or from the start, it told a line for each later checkpoint and the serial
+  -- run's report
   pub resumed : OnDone c.status (OfHolds c (λ setup n every. Resumes setup n every c.desk c.desk_after))
   -- .. and the disk holds the last of them, so that a run to a later quantum goes on from there
   pub last : OnDone c.status (OfHolds c (λ setup n every. LeavesLast setup n every c.desk c.desk_after))

@@ -1,5 +1,6 @@
 -- What the file of a run with checkpoints holds at each moment.
-use Rattle.std.specs.Prelude.{All, IfSome, IsSomeAnd, List, [], None, Option, Some, length, slice_get, take, unwrap_or, ℕ}
+use Rattle.std.specs.Prelude.{All, IfSome, IsSomeAnd, List, [], None, Option, Some, length, slice_get, take}
+use Rattle.std.specs.Prelude.{unwrap_or, ℕ}
 use Rattle.std.specs.Prelude.{◌∷◌, ◌++◌, ◌≡◌, ◌⊎◌, ◌≤◌}
 use Rattle.desk_io.specs.Desk.{Appended, DeskState, Elapses, WithText}
 use Rattle.soup_checkpoint.specs.Hold.{owner_of}

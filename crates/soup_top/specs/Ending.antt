@@ -10,10 +10,12 @@ use Rattle.soup_top.specs.declared.stop.RunStop.{RunStop}
 use Rattle.soup_top.specs.Checkpoints.{HasTrueMoments, IsLeftAlone, LeavesLast, Resumes}
 use Rattle.soup_top.specs.Genebank.{BeginsWith, DiskIsOfHistory, IsTrueMoment, KeepsUp, RefusesRun}
 use Rattle.soup_top.specs.Stops.{IfHoldRefused, IfRefused, UnlessTelling}
-use Rattle.soup_top.specs.Tasks.{ForTextOf, IsTellingFor, IsToldWhenRefused, OfHold, OfRun, RefusesHolding, RefusesTask, UnlessWriting}
+use Rattle.soup_top.specs.Tasks.{ForTextOf, IsTellingFor, IsToldWhenRefused, OfHold, OfRun, RefusesHolding}
+use Rattle.soup_top.specs.Tasks.{RefusesTask, UnlessWriting}
 
 -- The task is done: its text was told. A run left a genebank that begins with its groups. A run with checkpoints had no
--- state that was too large; if it went on from a world of the serial run, it told that run's text and left its last checkpoint.
+-- state that was too large; if it went on from a world of the serial run, it told that run's text and left its last
+-- checkpoint.
 pub record IsDoneFor (t : Task) (old new : DeskState) : Type 0 where
   pub told : ForTextOf t old.reads (λ text. Appended old.told text new.told)
   pub begins : OfRun t (λ setup n. IfSome old.reads (λ file. BeginsWith setup n file new.reads new.may_leave))

@@ -7,13 +7,15 @@ use Rattle.desk_io.specs.Desk.{Torn, Follows, NoMore, Same, Appended, AppendedSo
 use Rattle.test_desks.specs.Calls.{is_tell, made, Moment, file_at, next, MayLeave}
 use Rattle.test_desks.specs.Fits.{IsInside, IsMoment}
 use Rattle.test_desks.specs.Kept.{changes_nothing}
-use Rattle.test_desks.specs.MemDesk.{MemDeskState, now, file_of, reads_of, images_of, told_of, state_of, noted, Notes, disk_counted, disk_starved, NotesDiskCall}
+use Rattle.test_desks.specs.MemDesk.{MemDeskState, now, file_of, reads_of, images_of, told_of, state_of, noted, Notes, disk_counted, disk_starved}
+use Rattle.test_desks.specs.MemDesk.{NotesDiskCall}
 use Rattle.test_desks.specs.MemDesk.{tell_counted, tell_starved, NotesTell}
 use Rattle.test_desks.specs.declared.call.Call.{Call}
 use Rattle.test_desks.specs.declared.call.Call.TheVariants.{Write, TooLong, Sync, Tell}
 use Rattle.test_desks.specs.FitSteps.{reads-same}
 use Rattle.test_desks.proofs.MomentSteps.{elapses_push, elapses_same}
-use Rattle.test_desks.proofs.NextSteps.{moment_next, inside_plain, same_next, plain_file, plain_next, tell_file, told_as_it_was, write_next, write_none, sync_next, tell_next, told_next}
+use Rattle.test_desks.proofs.NextSteps.{moment_next, inside_plain, same_next, plain_file, plain_next, tell_file, told_as_it_was, write_next, write_none}
+use Rattle.test_desks.proofs.NextSteps.{sync_next, tell_next, told_next}
 use Rattle.test_desks.specs.Splices.{torn_none}
 use Rattle.desk_io.proofs.Time.{Elapses-weaker}
 

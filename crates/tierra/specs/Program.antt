@@ -1,7 +1,8 @@
 -- What the program promises: the records of the top call, over its words, input and output.
 use Rattle.std.specs.Prelude.{ℕ, List, Option}
 use Rattle.file_desk.specs.Printed.{desk_of}
-use Rattle.soup_top.specs.Calls.{Call, CallsNoMore, ComesToSameEnd, HasItsCause, HasRightText, KeepsLinesUp, LeavesTrueGenebank}
+use Rattle.soup_top.specs.Calls.{Call, CallsNoMore, ComesToSameEnd, HasItsCause, HasRightText, KeepsLinesUp}
+use Rattle.soup_top.specs.Calls.{LeavesTrueGenebank}
 use Rattle.soup_top.specs.Calls.{SparesRefusedFile, TellsNothingElse, TellsWhatIsAsked}
 use Rattle.soup_top.specs.declared.status.Status.{Status}
 
@@ -13,8 +14,8 @@ pub record Faults : Type 0 where
 
 -- The run of the program as a call of the top call: what the input tells of the bytes still to come, and the output of
 -- those that it has taken, as the run begins and as it ends; and that both are as they were.
-abbrev pub call_of : List (List ℕ) → Option (List ℕ) → Option (List ℕ) → Type 0 → Option (List ℕ) → Option (List ℕ) → Type 0
-    → Faults → Status → Call
+abbrev pub call_of : List (List ℕ) → Option (List ℕ) → Option (List ℕ) → Type 0 → Option (List ℕ) → Option (List ℕ)
+    → Type 0 → Faults → Status → Call
 call_of words input input_after leaves_input output output_after leaves_output f status = record {
   words = words;
   source = record { left = input; faults = 0 };

@@ -18,7 +18,8 @@ module _ {T : Type 0} (summary : T → Summary) (o : Summary) where
   abbrev pub IsHome : List (maybe.Option (Option T)) → List ℕ → Type 0
   IsHome homes counts = (x : T) × (homes ≡ some (Some x) ∷ []) × HasGrown o counts (summary x)
 
-  pub restages_with : (s : State (Option T) SeatView) (r : KeepsRule summary o s) (id : ℕ) (v : SeatView) (stage : Stage) (homes' : List (maybe.Option (Option T)))
+  pub restages_with : (s : State (Option T) SeatView) (r : KeepsRule summary o s) (id : ℕ) (v : SeatView) (stage : Stage)
+      (homes' : List (maybe.Option (Option T)))
       → get_elem? s.views id ≡ some v → IsActive v.stage → IsActive stage → ticket_count stage ≡ ticket_count v.stage
       → ((n : ℕ) → HasTicket v.stage n → HasTicket stage n) → StageFits r.ticket r.serving r.counts r.holder id stage
       → (NoneHolds (set s.views id (at_stage v stage)) → IsHome homes' r.counts)

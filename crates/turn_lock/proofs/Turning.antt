@@ -86,7 +86,8 @@ module _ {T : Type 0} (summary : T → Summary) where
   turn_seat table table' v seat n counts d e f x is_seat same_table hd took hf =
       (λ k. seat_of (same_table k) (holding_seat v n counts d e f x hd took hf k).0) ∙ is_seat
 
-  pub mirrors_turn : (views : List SeatView) (caller turns seen committed : ℕ) (own : List (Option ℕ)) (n : ℕ) (counts : List ℕ) (x value : T) (d e f : TableSeat T)
+  pub mirrors_turn : (views : List SeatView) (caller turns seen committed : ℕ) (own : List (Option ℕ)) (n : ℕ) (counts : List ℕ) (x value : T)
+      (d e f : TableSeat T)
       → MirrorsSeat views caller turns seen own → turns < most_tickets → length counts ≡ 64
       → d ≡ (called_view (view_of views) n counts, []) → SlotTaken summary d e x → x ≡ value → f ≡ (e.0, (0, None) ∷ rest e.1)
       → committed ≡ (summary value).committed → MirrorsTurn f caller turns committed own (summary value)

@@ -47,7 +47,8 @@ abbrev pub NoneHolds : List SeatView → Type 0
 NoneHolds views = (seat : ℕ) (v : SeatView) → get_elem? views seat ≡ some v → ¬ IsHolding v.stage
 
 -- the rule, where `summary` reads the value, and `opening` is the summary of the one that the lock was made with
-pub record KeepsRule {T : Type 0} (summary : T → Summary) (opening : Summary) (s : State (Option T) SeatView) : Type 0 where
+pub record KeepsRule {T : Type 0} (summary : T → Summary) (opening : Summary)
+    (s : State (Option T) SeatView) : Type 0 where
   pub ticket : ℕ
   pub serving : ℕ
   pub counts : List ℕ

@@ -1,7 +1,8 @@
 -- Reading a world from left to right.
 use Rattle.std.specs.Int.{cast_signed, w32}
 use Rattle.std.specs.Prelude.{List, None, Option, Some, if◌then◌else◌, length, map, ℕ, ℤ, ◌-◌, ◌==◌}
-use Rattle.byte_fields.specs.Reading.{both, byte_at, counted_at, efforts_at, eight_at, eights_at, four_at, fours_at, list_at, made, made_if, only_if, sized_at}
+use Rattle.byte_fields.specs.Reading.{both, byte_at, counted_at, efforts_at, eight_at, eights_at, four_at, fours_at}
+use Rattle.byte_fields.specs.Reading.{list_at, made, made_if, only_if, sized_at}
 use Rattle.tierra_model.specs.declared.creatures.Block.{Block}
 use Rattle.tierra_model.specs.declared.creatures.Creature.{Creature}
 use Rattle.tierra_model.specs.declared.creatures.Effort.{Effort}

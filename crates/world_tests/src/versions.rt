@@ -1,5 +1,7 @@
 //! Versions of a soup.
 
+ghost use Rattle.std.specs.Prelude.{◌≡◌, ◌<◌};
+
 use soup_cells::{PAGE, Soup, Version};
 use std::test::Fail;
 

@@ -13,10 +13,12 @@ returns-in_err-field g c =
 pub loop-preserved : goal.loop-preserved
 loop-preserved g c =
     let field = c.in_ok-field.field in
-    rw c.in_ok-push.ensures.items (goes_on (g.F.Field.at c.args.format) c.loop.list.items c.args.count c.loop.counter c.loop.rest.now field c.in_ok-field.after.now
+    rw c.in_ok-push.ensures.items (goes_on (g.F.Field.at c.args.format) c.loop.list.items c.args.count c.loop.counter c.loop.rest.now field
+    c.in_ok-field.after.now
     (list_at (g.F.Field.at c.args.format) c.args.count c.args.bytes.now) c.loop-test.true c.in_ok-field.ensures c.loop.invariant)
 
 pub returns : goal.returns
 returns g c =
-    is_done (g.F.Field.at c.args.format) c.loop.list.items c.args.count c.loop.counter c.loop.rest.now (list_at (g.F.Field.at c.args.format) c.args.count c.args.bytes.now) c.loop-test.false
+    is_done (g.F.Field.at c.args.format) c.loop.list.items c.args.count c.loop.counter c.loop.rest.now
+    (list_at (g.F.Field.at c.args.format) c.args.count c.args.bytes.now) c.loop-test.false
     c.loop.invariant

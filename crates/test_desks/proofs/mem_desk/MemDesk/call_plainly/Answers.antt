@@ -14,7 +14,8 @@ pub returns-clause-file : goal.returns-clause-file
 returns-clause-file c =
     let inside = inside_plain (length (file_of c.args.self.now)) c.args.call c.args.failed c.requires.plain in (
       reads-told c.args.self.now c.note-noted.ensures.sound,
-      reads-told c.settle_disk.new.self (disk_sound c.args.self.now c.settle_disk.new.self c.args.call c.args.failed inside c.note-noted.ensures.sound (notes c)),
+      reads-told c.settle_disk.new.self (disk_sound c.args.self.now c.settle_disk.new.self c.args.call c.args.failed inside c.note-noted.ensures.sound
+          (notes c)),
     )
 
 pub returns-clause-untouched : goal.returns-clause-untouched
