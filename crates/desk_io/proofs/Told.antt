@@ -1,5 +1,5 @@
 -- What was told of a text, where more is told, or where the file has something else.
-use Rattle.std.proofs.Common.{◌≡◌, ◌∙◌, ap, ℕ, List, ◌++◌, append_assoc, Option}
+use Rattle.std.proofs.Common.{◌∙◌, ap, ℕ, List, ◌++◌, append_assoc, Option}
 use Rattle.desk_io.specs.Told.{BeginsWithText, LinesFollow}
 
 -- what begins a text begins one that goes on after it

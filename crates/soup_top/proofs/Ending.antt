@@ -1,14 +1,14 @@
 -- How a run and a run with checkpoints end, as their tasks end.
 use Rattle.std.proofs.Common.{◌≡◌, inl, inr, refl, subst, ℕ, List, Option, Result, Ok, Err, IfErr, OnOk}
-use Rattle.std.specs.Prelude.{IfSome, Some, ◌⊎◌, take}
+use Rattle.std.specs.Prelude.{IfSome, Some, ◌⊎◌}
 use Rattle.bank_journal.proofs.Times.{at_file, each_file}
 use Rattle.bank_recover.specs.declared.faults.BankFault.{BankFault}
-use Rattle.desk_io.specs.Desk.{Appended, AppendedSome, DeskState, Elapses, TellsText}
+use Rattle.desk_io.specs.Desk.{AppendedSome, DeskState, Elapses, TellsText}
 use Rattle.bank_journal.specs.Steps.{IsUnwritten}
 use Rattle.soup_checkpoint.specs.declared.faults.HoldFault.{HoldFault}
 use Rattle.soup_hold.specs.Ending.{IsStopped}
 use Rattle.desk_io.specs.Told.{AppendedLess}
-use Rattle.soup_hold.specs.Holding.{IsEarly, IsHoldText, RefusesHold}
+use Rattle.soup_hold.specs.Holding.{IsEarly, RefusesHold}
 use Rattle.soup_hold.specs.declared.stop.HoldStop.{HoldStop}
 use Rattle.soup_hold.specs.declared.stop.HoldStop.TheVariants as hold
 use Rattle.tierra_model.specs.Setups.{SetupFields}
