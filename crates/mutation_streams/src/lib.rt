@@ -7,7 +7,7 @@ mod entry;
 mod reading;
 mod tape;
 
-ghost use Rattle.std.specs.Prelude.{◌≡◌, ◌+◌, ◌*◌, [], ◌∷◌};
+ghost use Rattle.std.specs.Prelude.{◌≡◌, ◌+◌, ◌*◌, ◌<◌, [], ◌∷◌};
 ghost use Rattle.tierra_model.specs.Draw.{back_flip, copy_bit, flaw, word};
 ghost use Rattle.mutation_streams.specs.Draws.{draws_of};
 ghost use Rattle.mutation_streams.specs.Entries.{chance_of, entry_of};
@@ -118,8 +118,7 @@ impl Draws {
     }
 
     /// The flaw of instruction `i` of the quantum: 1, -1, or 0 for none.
-    #[inline]
-    #[tactic(auto, using(crate::proofs::Found::flaw_found))]
+    #[inline(always)]
     pub fn flaw(&mut self, i: u32) -> i32
         ensures flaw { result ≡ flaw self.old.flaw_rate (word self.old.seed self.old.quantum) i }
         ensures same { self.new ≡ self.old }
@@ -127,6 +126,17 @@ impl Draws {
         if self.flaw_rate == 0 {
             return 0;
         }
+        self.drawn_flaw(i)
+    }
+
+    // The flaw, where there may be some. (It is not put into the code of each caller, as the test of the rate is.)
+    #[inline(never)]
+    #[tactic(auto, using(crate::proofs::Found::flaw_found))]
+    fn drawn_flaw(&mut self, i: u32) -> i32
+        requires rate { 0 < self.old.flaw_rate }
+        ensures flaw { result ≡ flaw self.old.flaw_rate (word self.old.seed self.old.quantum) i }
+        ensures same { self.new ≡ self.old }
+    {
         if i < self.reach {
             return self.entry.flaw(i);
         }

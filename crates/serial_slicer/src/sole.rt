@@ -272,10 +272,10 @@ impl Sole {
     }
 
     /// The creature, which has this record now, goes to the back of the slicer queue, and the quantum is counted.
-    pub(crate) fn end_turn(&mut self, after: Creature)
+    pub(crate) fn end_turn(&mut self, after: &Creature)
         requires within { IsRunning self.old.world }
-        requires fits { RecordFits (front self.old.world) after }
-        ensures { self.new.world ≡ turn_end_of (put after self.old.world) }
+        requires fits { RecordFits (front self.old.world) after.now }
+        ensures { self.new.world ≡ turn_end_of (put after.now self.old.world) }
     {
         self.running.put(after);
         self.running.turn_end();

@@ -40,8 +40,7 @@ pub(crate) fn run_quantum<T: Tape, L: Ledger>(
         creature,
     };
     run_slice(&mut turn, &mut draws, settings, quantum, slice, steps)?;
-    let after = turn.creature;
-    turn.sole.end_turn(after);
+    turn.sole.end_turn(&turn.creature);
     Ok(())
 }
 

@@ -1,13 +1,13 @@
 -- What is known of cells in a row tells of candidates.
 use Rattle.std.proofs.Common.{◌≡◌, ℕ, zero, suc, ◌+◌, ◌%◌, ◌<◌, ◌≤◌, Bool, true, false, List, [], ◌∷◌, refl, ◌∙◌, ap, arith, get_or, length, subst}
-use Rattle.std.specs.Prelude.{None, min, slice_index, ◌==◌}
+use Rattle.std.specs.Prelude.{None, Some, min, slice_index, ◌==◌}
 use Rattle.std.proofs.Math.Nat.{mod-mod}
 use Rattle.std.proofs.lemmas.Bool.Decides.{nat_tests}
 use Rattle.tierra_model.specs.Look.{pass, Passes}
 use Rattle.tierra_model.specs.Search.{compare, try_each}
-use Rattle.template_search.specs.Openings.{Differs}
+use Rattle.template_search.specs.Openings.{Agrees, Differs}
 use Rattle.template_search.proofs.Comparing.{compare-place, compare_one}
-use Rattle.template_search.proofs.Trying.{one_fails, second_of_two}
+use Rattle.template_search.proofs.Trying.{one_fails, one_matches, second_of_two}
 
 module _ {S : Type 0} (cells : S → ℕ → ℕ) (looked : S → ℕ → S) (n : ℕ) (row : List ℕ) (v : S)
     (held : (p : ℕ) → p < n → slice_index row p < 32 → slice_index row p ≡ cells v p)
@@ -50,7 +50,30 @@ module _ {S : Type 0} (cells : S → ℕ → ℕ) (looked : S → ℕ → S) (n 
           ∙ ap (λ t. pass cells looked t v) (compare-place n ws ((place + 1) % n) (place + 1) (mod-mod (place + 1) n))
           ∙ rest (λ all. other (each matches all))
 
+  -- the cells are known, and are all the complement's
+  cells_agree : (vs : List ℕ) (place : ℕ) → place + length vs ≤ n → ((j : ℕ) → j < length vs → get_or vs j 0 + slice_index row (place + j) ≡ 1)
+      → Passes cells looked (compare n vs place) v v true
+  unfolding compare
+  cells_agree [] place within all = refl
+  cells_agree (w ∷ ws) place within all =
+      let first : place + 0 ≡ place = omega arith in
+      let matches : w + slice_index row place ≡ 1 = subst (λ (q : ℕ). w + slice_index row q ≡ 1) first (all 0 (omega arith)) in
+      let here : slice_index row place < 32 = omega (arith, matches) in
+      let same = held place (omega arith) here in
+      let yes : (w + cells v place == 1) ≡ true = grind (arith, nat_tests) in
+      let rest : Passes cells looked (compare n ws (place + 1)) v v true =
+      cells_agree ws (place + 1) (omega arith)
+      (λ j h. (let further : place + suc j ≡ place + 1 + j = omega arith in
+      subst (λ (q : ℕ). get_or ws j 0 + slice_index row q ≡ 1) further (all (suc j) (omega arith)))) in
+      compare_one cells looked n w ws place v true (omega arith) yes
+      ∙ ap (λ (s : S). pass cells looked (compare n ws ((place + 1) % n)) s) (traceless place (omega arith) here)
+      ∙ ap (λ t. pass cells looked t v) (compare-place n ws ((place + 1) % n) (place + 1) (mod-mod (place + 1) n))
+      ∙ rest
+
   module _ (vs : List ℕ) where
+    pub candidate_agrees : (place : ℕ) → place + 8 ≤ n → length vs ≤ 8 → Agrees vs row place → Passes cells looked (try_each n vs (place ∷ [])) v v (Some place)
+    candidate_agrees place near short all = one_matches cells looked n vs place v v (cells_agree vs place (omega arith) (λ j h. all j (omega arith)))
+
     pub candidate_differs : (place : ℕ) → place + 8 ≤ n → Differs vs row place → Passes cells looked (try_each n vs (place ∷ [])) v v None
     candidate_differs place near d =
         one_fails cells looked n vs place v v (cells_differ (min 8 (length vs)) vs place (omega arith) (omega arith) d.known d.other)

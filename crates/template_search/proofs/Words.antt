@@ -6,7 +6,7 @@ use Rattle.std.proofs.lemmas.Nat.{and_block, and_le_l, and_le_r, and_mask, xor_b
 use Rattle.std.specs.Int.Bits.{or_add_and}
 use Rattle.std.proofs.lemmas.List.{get_or-take, length-take}
 use Rattle.template_search.specs.declared.opening.Opening.{Opening}
-use Rattle.template_search.specs.Openings.{Differs, IsOpening, complement_at, mask_at, packed}
+use Rattle.template_search.specs.Openings.{Agrees, Differs, IsOpening, complement_at, mask_at, packed}
 
 -- k bytes as a number, the first the lowest
 abbrev pub number : ℕ → (ℕ → ℕ) → ℕ
@@ -36,6 +36,15 @@ number_none : (k : ℕ) (f : ℕ → ℕ) → number k f ≡ 0 → (j : ℕ) →
 number_none zero f none j h = absurd (omega arith)
 number_none (suc k) f none zero h = omega arith
 number_none (suc k) f none (suc j) h = number_none k (λ j. f (suc j)) (omega arith) j (omega arith)
+
+-- equal numbers have equal bytes
+number_equal : (k : ℕ) (f g : ℕ → ℕ) → ((j : ℕ) → j < k → f j < 2 ^ 8) → ((j : ℕ) → j < k → g j < 2 ^ 8)
+    → number k f ≡ number k g → (j : ℕ) → j < k → f j ≡ g j
+number_equal zero f g a b e j h = absurd (omega arith)
+number_equal (suc k) f g a b e zero h = omega (arith, a 0 (omega arith), b 0 (omega arith))
+number_equal (suc k) f g a b e (suc j) h =
+    number_equal k (λ j. f (suc j)) (λ j. g (suc j)) (λ j h. a (suc j) (omega arith)) (λ j h. b (suc j) (omega arith))
+    (omega (arith, a 0 (omega arith), b 0 (omega arith))) j (omega arith)
 
 -- the bits that no instruction's code has, in a byte and in eight of them
 abbrev no_code : ℕ
@@ -94,6 +103,11 @@ past_mask vs j x h =
     let none : bit_and x 0 ≡ x % 2 ^ 0 = and_mask x 0 in
     rw past (none ∙ omega arith)
 
+with_other_nop : (v : ℕ) → v < 2 → v + bit_xor v 1 ≡ 1
+with_other_nop zero h = refl
+with_other_nop (suc zero) h = refl
+with_other_nop (suc (suc k)) h = absurd (omega arith)
+
 other_nop : (v u : ℕ) → v + u ≡ 1 → u ≡ bit_xor v 1
 other_nop zero u e = omega arith
 other_nop (suc k) u e =
@@ -103,7 +117,10 @@ other_nop (suc k) u e =
 
 -- the complement of the template whose nops these are
 module _ (vs cells : List ℕ) (len : ℕ) (is : vs ≡ take len cells) (enough : 8 ≤ length cells) (few : len ≤ length cells)
-    (bytes : (j : ℕ) → slice_index cells j < 2 ^ 8) where
+    (nops : (j : ℕ) → slice_index cells j < 2) where
+  bytes : (j : ℕ) → slice_index cells j < 2 ^ 8
+  bytes j = omega (arith, nops j)
+
   abbrev cell : ℕ → ℕ
   cell j = slice_index cells (0 + j)
 
@@ -112,6 +129,11 @@ module _ (vs cells : List ℕ) (len : ℕ) (is : vs ≡ take len cells) (enough 
 
   long : length vs ≡ len
   long = omega (arith, ap length is, length-take len cells)
+
+  nop : (j : ℕ) → j < length vs → get_or vs j 0 < 2
+  nop j h =
+      let same : get_or vs j 0 ≡ slice_index cells j = ap (λ (l : List ℕ). get_or l j 0) is ∙ get_or-take len cells j 0 (omega (arith, h, long)) in
+      omega (arith, same, nops j)
 
   complement_cell : (j : ℕ) → bit_and (bit_xor (cell j) 1) (mask_at vs j) ≡ complement_at vs j
   complement_cell j = go (nat_lt j (length vs)) refl
@@ -127,15 +149,16 @@ module _ (vs cells : List ℕ) (len : ℕ) (is : vs ≡ take len cells) (enough 
           under_mask vs j (bit_xor (cell j) 1) here below ∙ rw e (ap (λ (n : ℕ). bit_xor n 1) (sym same))
       go false e = past_mask vs j (bit_xor (cell j) 1) (grind (arith, nat_tests))
 
-  pub is_opening : (o : Opening) (nops mask : ℕ) → nops ≡ packed cell → mask ≡ packed (mask_at vs) → o.cells ≡ bit_and (bit_xor nops other_nops) mask
+  pub is_opening : (o : Opening) (word mask : ℕ) → word ≡ packed cell → mask ≡ packed (mask_at vs) → o.cells ≡ bit_and (bit_xor word other_nops) mask
       → o.mask ≡ mask
       → IsOpening vs o
-  is_opening o nops mask seen masks have under =
+  is_opening o word mask seen masks have under =
       let others : bit_xor (number 8 cell) (number 8 (λ j. 1)) ≡ number 8 (λ j. bit_xor (cell j) 1) =
       number_xor 8 cell (λ j. 1) (λ j h. bytes (0 + j)) (λ j h. omega arith) in
       let masked : bit_and (number 8 (λ j. bit_xor (cell j) 1)) (number 8 (mask_at vs)) ≡ number 8 (λ j. bit_and (bit_xor (cell j) 1) (mask_at vs j)) =
       number_and 8 (λ j. bit_xor (cell j) 1) (mask_at vs) (λ j h. xor_lt 8 (cell j) 1 (bytes (0 + j)) (omega arith)) (λ j h. mask_below vs j) in
       record {
+        nops = λ j h. nop j h;
         cells =
             have
             ∙ (λ i. bit_and (bit_xor ((seen ∙ packed-number cell) i) other_nops) ((masks ∙ packed-number (mask_at vs)) i))
@@ -184,6 +207,27 @@ module _ (vs row : List ℕ) (place : ℕ) (o : Opening) (opening : IsOpening vs
       is_code (byte j) (bytes j)
       (ap (λ (n : ℕ). bit_and n no_code) (sym (under_mask vs j (byte j) (omega arith) (bytes j)))
       ∙ number_none 8 (λ j. bit_and (bit_and (byte j) (mask_at vs j)) no_code) nothing j (omega arith))
+
+  pub agrees_in_word : seen ≡ o.cells → Agrees vs row place
+  agrees_in_word same j h =
+      let here : nat_lt j (length vs) ≡ true = (let l : j < length vs = omega arith in grind (arith, nat_tests)) in
+      let nop : get_or vs j 0 < 2 = opening.nops j (omega arith) in
+      let other : complement_at vs j ≡ bit_xor (get_or vs j 0) 1 = rw here refl in
+      let equal : bit_and (byte j) (mask_at vs j) ≡ complement_at vs j =
+      number_equal 8 (λ j. bit_and (byte j) (mask_at vs j)) (complement_at vs)
+      (λ j h. omega (arith, and_le_l (byte j) (mask_at vs j), bytes j)) (λ j h. complement_below j)
+      (sym masked ∙ same ∙ opening.cells ∙ packed-number (complement_at vs)) j (omega arith) in
+      let cell : byte j ≡ bit_xor (get_or vs j 0) 1 = sym (under_mask vs j (byte j) (omega arith) (bytes j)) ∙ equal ∙ other in
+      ap (λ (n : ℕ). get_or vs j 0 + n) cell ∙ with_other_nop (get_or vs j 0) nop
+    where
+      complement_below : (j : ℕ) → complement_at vs j < 2 ^ 8
+      complement_below j = go (nat_lt j (length vs)) refl
+        where
+          go : (b : Bool) → nat_lt j (length vs) ≡ b → complement_at vs j < 2 ^ 8
+          go true e =
+              let nop : get_or vs j 0 < 2 = opening.nops j (grind (arith, nat_tests)) in
+              rw e (xor_lt 8 (get_or vs j 0) 1 (omega arith) (omega arith))
+          go false e = rw e (omega arith)
 
   pub differs_in_word : (seen ≡ o.cells → ⊥) → bit_and seen no_codes ≡ 0 → Differs vs row place
   differs_in_word other none =

@@ -16,11 +16,17 @@ complement_at vs j = if nat_lt j (length vs) then bit_xor (get_or vs j 0) 1 else
 abbrev pub mask_at : List ℕ → ℕ → ℕ
 mask_at vs j = if nat_lt j (length vs) then 255 else 0
 
+-- The opening of the complement of a template, which holds nops.
 pub record IsOpening (vs : List ℕ) (o : Opening) : Type 0 where
+  pub nops : (j : ℕ) → j < length vs → get_or vs j 0 < 2
   pub cells : o.cells ≡ packed (complement_at vs)
   pub mask : o.mask ≡ packed (mask_at vs)
+
+-- The first eight cells from place on, or as many as the template has, are its complement.
+abbrev pub Agrees : List ℕ → List ℕ → ℕ → Type 0
+Agrees vs row place = (j : ℕ) → j < min 8 (length vs) → get_or vs j 0 + slice_index row (place + j) ≡ 1
 
 -- The first eight cells from place on, or as many as the template has, are known, and are not its complement.
 pub record Differs (vs row : List ℕ) (place : ℕ) : Type 0 where
   pub known : (j : ℕ) → j < min 8 (length vs) → slice_index row (place + j) < 32
-  pub other : ((j : ℕ) → j < min 8 (length vs) → get_or vs j 0 + slice_index row (place + j) ≡ 1) → ⊥
+  pub other : Agrees vs row place → ⊥

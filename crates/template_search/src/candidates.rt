@@ -1,6 +1,6 @@
 //! The candidates at one distance.
 
-ghost use Rattle.std.specs.Prelude.{◌≡◌, ◌<◌, ◌≤◌, ◌+◌, IfSome, None, [], ◌∷◌, true};
+ghost use Rattle.std.specs.Prelude.{◌≡◌, ◌<◌, ◌≤◌, ◌+◌, IfSome, None, Some, [], ◌∷◌, true};
 ghost use Rattle.tierra_model.specs.Look.{Passes};
 ghost use Rattle.tierra_model.specs.Search.{try_each};
 ghost use Rattle.template_search.specs.Sides.{on_sides};
@@ -25,33 +25,9 @@ pub struct Pair {
     pub behind: u32,
 }
 
-/// The first of the candidates at one distance that is a complement. Most are not, and the row shows that at once.
+/// Whether the row shows that no candidate at one distance is a complement. Of most it does.
 #[inline(always)]
-pub fn match_in_row<V: View>(
-    view: &mut V,
-    nops: &[u8],
-    course: Course,
-    opening: Opening,
-    pair: Pair,
-) -> Option<u32>
-    requires opening { IsOpening nops.now opening }
-    requires ahead { pair.ahead + 8 ≤ course.size }
-    requires behind { pair.behind + 8 ≤ course.size }
-    requires size { course.size ≡ V.size view.old }
-    ensures passes { Passes V.cells V.looked
-        (try_each course.size nops.now (on_sides course.way pair.ahead pair.behind)) view.old view.new result }
-    ensures below { IfSome result (λ p. p < course.size) }
-    ensures same { V.size view.new ≡ course.size }
-{
-    if differ(view, nops, course, opening, pair) {
-        return None;
-    }
-    match_near(view, nops, course, pair)
-}
-
-// Whether the row shows that no candidate at one distance is a complement.
-#[inline(always)]
-fn differ<V: View>(view: &V, nops: &[u8], course: Course, opening: Opening, pair: Pair) -> bool
+pub fn differ<V: View>(view: &V, nops: &[u8], course: Course, opening: Opening, pair: Pair) -> bool
     requires opening { IsOpening nops.now opening }
     requires ahead { pair.ahead + 8 ≤ V.size view.now }
     requires behind { pair.behind + 8 ≤ V.size view.now }
@@ -69,8 +45,18 @@ fn differ<V: View>(view: &V, nops: &[u8], course: Course, opening: Opening, pair
     }
 }
 
-/// Of the candidates at one distance on the sides of the search, the first that is a complement.
-pub fn match_near<V: View>(view: &mut V, nops: &[u8], course: Course, pair: Pair) -> Option<u32>
+/// Of the candidates at one distance on the sides of the search, the first that is a complement. The opening is given
+/// where eight cells of the row are seen from each of them on.
+pub fn match_near<V: View>(
+    view: &mut V,
+    nops: &[u8],
+    course: Course,
+    opening: Option<Opening>,
+    pair: Pair,
+) -> Option<u32>
+    requires opening { IfSome opening (λ o. IsOpening nops.now o) }
+    requires near_ahead { IfSome opening (λ o. pair.ahead + 8 ≤ course.size) }
+    requires near_behind { IfSome opening (λ o. pair.behind + 8 ≤ course.size) }
     requires ahead { pair.ahead < course.size }
     requires behind { pair.behind < course.size }
     requires size { course.size ≡ V.size view.old }
@@ -80,17 +66,25 @@ pub fn match_near<V: View>(view: &mut V, nops: &[u8], course: Course, pair: Pair
     ensures same { V.size view.new ≡ course.size }
 {
     match course.way {
-        Way::Outward => match match_at(view, nops, course, pair.ahead) {
+        Way::Outward => match match_at(view, nops, course, opening, pair.ahead) {
             Some(place) => Some(place),
-            None => match_at(view, nops, course, pair.behind),
+            None => match_at(view, nops, course, opening, pair.behind),
         },
-        Way::Forward => match_at(view, nops, course, pair.ahead),
-        Way::Backward => match_at(view, nops, course, pair.behind),
+        Way::Forward => match_at(view, nops, course, opening, pair.ahead),
+        Way::Backward => match_at(view, nops, course, opening, pair.behind),
     }
 }
 
 // The candidate, if it is a complement.
-fn match_at<V: View>(view: &mut V, nops: &[u8], course: Course, place: u32) -> Option<u32>
+fn match_at<V: View>(
+    view: &mut V,
+    nops: &[u8],
+    course: Course,
+    opening: Option<Opening>,
+    place: u32,
+) -> Option<u32>
+    requires opening { IfSome opening (λ o. IsOpening nops.now o) }
+    requires near { IfSome opening (λ o. place + 8 ≤ course.size) }
     requires place { place < course.size }
     requires size { course.size ≡ V.size view.old }
     ensures passes { Passes V.cells V.looked
@@ -98,9 +92,29 @@ fn match_at<V: View>(view: &mut V, nops: &[u8], course: Course, place: u32) -> O
     ensures below { IfSome result (λ p. p < course.size) }
     ensures same { V.size view.new ≡ course.size }
 {
+    if shows_match(view, nops, opening, place) {
+        return Some(place);
+    }
     if is_complement(view, nops, place, course.size) {
         Some(place)
     } else {
         None
+    }
+}
+
+// Whether the row shows that the candidate is a complement. It can where the template has at most eight cells.
+#[inline(always)]
+fn shows_match<V: View>(view: &V, nops: &[u8], opening: Option<Opening>, place: u32) -> bool
+    requires opening { IfSome opening (λ o. IsOpening nops.now o) }
+    requires near { IfSome opening (λ o. place + 8 ≤ V.size view.now) }
+    ensures { result ≡ true → Passes V.cells V.looked
+        (try_each (V.size view.now) nops.now (place ∷ [])) view.now view.now (Some place) }
+{
+    let Some(opening) = opening else {
+        return false;
+    };
+    match view.row() {
+        Some(row) => nops.len() <= 8 && opening.agrees(row, place),
+        None => false,
     }
 }

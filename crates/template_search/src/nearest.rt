@@ -1,6 +1,6 @@
 //! The nearest candidate, at rising distances.
 
-ghost use Rattle.std.specs.Prelude.{◌≡◌, ◌<◌, ◌≤◌, ◌+◌, ◌-◌, IfSome, length};
+ghost use Rattle.std.specs.Prelude.{◌≡◌, ◌<◌, ◌≤◌, ◌+◌, ◌-◌, ◌^◌, IfSome, None, length};
 ghost use Rattle.tierra_model.specs.declared.limits.TheConstants.{MOST_CELLS};
 ghost use Rattle.tierra_model.specs.Look.{Passes};
 ghost use Rattle.tierra_model.specs.Search.{candidates, try_each};
@@ -8,7 +8,7 @@ ghost use Rattle.template_search.specs.Circle.{NoneInCircle};
 ghost use Rattle.template_search.specs.Openings.{IsOpening};
 ghost use Rattle.template_search.specs.Reaching.{Reaches};
 
-use crate::candidates::{Course, Pair, match_in_row, match_near};
+use crate::candidates::{Course, Pair, differ, match_near};
 use crate::known::is_known;
 use crate::opening::Opening;
 use crate::places::{next_place, place_at, previous_place};
@@ -187,16 +187,71 @@ fn nearest_straight<V: View>(
     ensures below { IfSome result (λ p. p < course.size) }
     ensures same { V.size view.new ≡ course.size }
 {
-    for near in 0..straight {
-        let pair = Pair {
-            ahead: first.ahead + near,
-            behind: first.behind - near,
-        };
-        if let Some(start) = match_in_row(view, nops, course, opening, pair) {
-            return Some(start);
+    let mut near = 0;
+    while near < straight {
+        near = next_likely(view, nops, opening, course, first, near, straight);
+        if near < straight {
+            if let Some(start) = match_near(
+                view,
+                nops,
+                course,
+                Some(opening),
+                pair_at(first, near),
+            ) {
+                return Some(start);
+            }
+            near += 1;
         }
     }
     None
+}
+
+// The candidates so many distances further.
+#[inline(always)]
+fn pair_at(first: Pair, further: u32) -> Pair
+    requires ahead { first.ahead + further < 2 ^ 32 }
+    requires behind { further ≤ first.behind }
+    ensures ahead { result.ahead ≡ first.ahead + further }
+    ensures behind { result.behind ≡ first.behind - further }
+{
+    Pair {
+        ahead: first.ahead + further,
+        behind: first.behind - further,
+    }
+}
+
+// How many distances are tried, from `near` on, until the row rules the candidates at the next one out no longer; at
+// most up to `straight`. (Alone, the loop keeps its values in registers.)
+#[inline(never)]
+fn next_likely<V: View>(
+    view: &V,
+    nops: &[u8],
+    opening: Opening,
+    course: Course,
+    first: Pair,
+    near: u32,
+    straight: u32,
+) -> u32
+    requires opening { IsOpening nops.now opening }
+    requires size { course.size ≡ V.size view.now }
+    requires behind { first.behind < course.size }
+    requires places { Reaches course.size course.ip (length nops.now) 1 first.ahead first.behind }
+    requires near { near < straight }
+    requires within { straight ≤ first.behind }
+    requires near_ahead { first.ahead + straight + 7 ≤ course.size }
+    requires near_behind { first.behind + 8 ≤ course.size }
+    ensures from { near ≤ result }
+    ensures up_to { result ≤ straight }
+    ensures none { Passes V.cells V.looked (try_each course.size nops.now
+        (candidates course.size course.ip (length nops.now) course.way (result - near) (near + 1)))
+        view.now view.now None }
+{
+    for at in near..straight {
+        if !differ(view, nops, course, opening, pair_at(first, at)) {
+            return at;
+        }
+    }
+    straight
 }
 
 // The nearest candidate at the other distances, from these two on.
@@ -224,7 +279,7 @@ fn nearest_round<V: View>(
     let mut ahead = next.ahead;
     let mut behind = next.behind;
     for _ in tried..limit {
-        if let Some(start) = match_near(view, nops, course, Pair { ahead, behind }) {
+        if let Some(start) = match_near(view, nops, course, None, Pair { ahead, behind }) {
             return Some(start);
         }
         ahead = next_place(ahead, course.size);

@@ -1,7 +1,7 @@
 //! The first cells of a template's complement, compared all at once with what is known of cells in a row.
 
 ghost use Rattle.std.specs.Prelude.{◌≡◌, ◌+◌, ◌<◌, ◌≤◌, ◌^◌, List, ℕ, length, slice_index, take, true};
-ghost use Rattle.template_search.specs.Openings.{Differs, IsOpening, mask_at, packed};
+ghost use Rattle.template_search.specs.Openings.{Agrees, Differs, IsOpening, mask_at, packed};
 
 use crate::template::Template;
 
@@ -39,6 +39,15 @@ impl Opening {
     {
         let seen = word_at(row, place as usize) & self.mask;
         seen != self.cells && seen & NO_CODE == 0
+    }
+
+    /// Whether the row shows a match from `place` on, as far as the opening goes.
+    #[inline]
+    pub fn agrees(self, row: &[u8], place: u32) -> bool
+        requires { place + 8 ≤ length row.now }
+        ensures { (vs : List ℕ) → IsOpening vs self → result ≡ true → Agrees vs row.now place }
+    {
+        word_at(row, place as usize) & self.mask == self.cells
     }
 
     /// Whether the row shows a mismatch from each of two places on.

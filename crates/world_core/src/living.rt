@@ -85,14 +85,14 @@ impl Living {
     }
 
     /// Replaces the record of a creature.
-    pub(crate) fn put(&mut self, creature: Creature)
-        requires { 0 < times_in (ids_of self.old.creatures) creature.id }
-        ensures creatures { self.new.creatures ≡ with_record creature self.old.creatures }
+    pub(crate) fn put(&mut self, creature: &Creature)
+        requires { 0 < times_in (ids_of self.old.creatures) creature.now.id }
+        ensures creatures { self.new.creatures ≡ with_record creature.now self.old.creatures }
         ensures room { self.new.spare ≡ self.old.spare }
     {
         match place_of(&self.creatures, &self.places, creature.id) {
             Some(place) => {
-                self.creatures[place] = creature;
+                self.creatures[place] = *creature;
                 self.places.note(creature.id, place);
             }
             None => unreachable!(),

@@ -153,10 +153,10 @@ impl Population {
     }
 
     /// Replaces the record of a creature by one with the same errors.
-    pub(crate) fn put(&mut self, creature: Creature)
-        requires here { 0 < times_in (ids_of self.old.living) creature.id }
-        requires errors { (one_of self.old.living creature.id).errors ≡ creature.errors }
-        ensures living { self.new.living ≡ with_record creature self.old.living }
+    pub(crate) fn put(&mut self, creature: &Creature)
+        requires here { 0 < times_in (ids_of self.old.living) creature.now.id }
+        requires errors { (one_of self.old.living creature.now.id).errors ≡ creature.now.errors }
+        ensures living { self.new.living ≡ with_record creature.now self.old.living }
         ensures slicer { self.new.slicer ≡ self.old.slicer }
         ensures reaper { self.new.reaper ≡ self.old.reaper }
         ensures room { self.new.spare ≡ self.old.spare }
@@ -178,7 +178,7 @@ impl Population {
         ensures room { self.new.spare ≡ self.old.spare }
     {
         self.reaper.error(creature.id);
-        self.living.put(creature);
+        self.living.put(&creature);
     }
 
     /// Moves a creature down in the reaper queue.

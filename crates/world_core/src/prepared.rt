@@ -72,7 +72,7 @@ impl World {
         } = prepared;
         let running = &mut *self.running;
         do_all(running, &events.items, codes);
-        running.put(after);
+        running.put(&after);
         running.turn_end();
     }
 }

@@ -50,7 +50,7 @@ impl Running {
         let mut creature = *self.population.front();
         creature.take(block);
         self.blocks.take(block);
-        self.population.put(creature);
+        self.population.put(&creature);
     }
 
     /// It gives up its daughter block.
@@ -67,7 +67,7 @@ impl Running {
         let block = creature.daughter.unwrap();
         creature.give_up();
         self.blocks.give_back(block);
-        self.population.put(creature);
+        self.population.put(&creature);
     }
 
     /// Its daughter is born, at the cost of `ran` and `moved`; `code` is what the daughter block holds.
@@ -95,7 +95,7 @@ impl Running {
             .enter(newborn(self.next_birth, block, genotype));
         self.census.born(genotype);
         mother.bear();
-        self.population.put(mother);
+        self.population.put(&mother);
         self.births += 1;
         self.next_birth += 1;
     }

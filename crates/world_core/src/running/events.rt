@@ -72,10 +72,10 @@ impl Running {
     }
 
     /// Replaces the record of the creature whose turn it is by the one after its instructions.
-    pub fn put(&mut self, after: Creature)
+    pub fn put(&mut self, after: &Creature)
         requires within { IsRunning self.old.world }
-        requires fits { RecordFits (front self.old.world) after }
-        ensures world { self.new.world ≡ put after self.old.world }
+        requires fits { RecordFits (front self.old.world) after.now }
+        ensures world { self.new.world ≡ put after.now self.old.world }
         ensures ready { KeepsReady self.old self.new }
         ensures births { self.new.births ≡ self.old.births }
         ensures blocks { self.new.blocks ≡ self.old.blocks }

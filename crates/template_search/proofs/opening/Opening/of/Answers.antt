@@ -1,4 +1,4 @@
-use Rattle.std.proofs.Common.{arith, refl, rules}
+use Rattle.std.proofs.Common.{refl, rules}
 use Rattle.std.specs.Prelude.{take}
 use Rattle.template_search.proofs.Words.{is_opening}
 use Rattle.template_search.proofs.opening.Opening.of.Goals as goal
@@ -9,5 +9,5 @@ returns c =
     let nops = c.args.template.now.nops in
     let len = c.args.template.now.len in
     is_opening (take len cells) cells len refl (search rules) (search rules)
-    (λ j. omega (arith, nops j)) _ c.args.template.now.word c.mask_of-mask.result (search rules)
+    nops _ c.args.template.now.word c.mask_of-mask.result (search rules)
     (c.mask_of-mask.ensures (take len cells) (search rules)) refl refl
