@@ -34,7 +34,7 @@ pub(crate) fn run_quantum<T: Tape, L: Ledger>(
     let mut draws = tape.draws(settings, quantum);
     let creature = sole.begin_turn();
     let slice = slice_of(creature.own.size, settings);
-    let mut turn = Turn {
+    let mut turn = CreatureTurn {
         alloc,
         sole,
         creature,
@@ -46,13 +46,13 @@ pub(crate) fn run_quantum<T: Tape, L: Ledger>(
 
 /// A world in the middle of a turn. Until the turn ends, the record of the creature that runs is kept apart from it.
 #[derive(Drop)]
-struct Turn<'s> {
+struct CreatureTurn<'s> {
     alloc: Global,
     sole: &'s mut Sole,
     creature: Creature,
 }
 
-impl Ground for Turn<'_> {
+impl Ground for CreatureTurn<'_> {
     ghost use Rattle.std.specs.Prelude.{◌+◌};
     ghost use Rattle.tierra_model.specs.Quantum.{world_machine};
     ghost use Rattle.tierra_model.specs.World.{World, put};

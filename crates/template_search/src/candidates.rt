@@ -47,6 +47,7 @@ pub fn differ<V: View>(view: &V, nops: &[u8], course: Course, opening: Opening, 
 
 /// Of the candidates at one distance on the sides of the search, the first that is a complement. The opening is given
 /// where eight cells of the row are seen from each of them on.
+#[inline(always)]
 pub fn match_near<V: View>(
     view: &mut V,
     nops: &[u8],
@@ -76,6 +77,7 @@ pub fn match_near<V: View>(
 }
 
 // The candidate, if it is a complement.
+#[inline(always)]
 fn match_at<V: View>(
     view: &mut V,
     nops: &[u8],

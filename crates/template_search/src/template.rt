@@ -64,6 +64,7 @@ fn with_byte(word: u64, at: u32, nop: u8) -> u64
 }
 
 /// Whether the cells from `start` on hold 1 where the template has 0, and 0 where it has 1.
+#[inline(always)]
 #[tactic(auto, using(crate::proofs::Comparing::comparing))]
 pub fn is_complement<V: View>(view: &mut V, nops: &[u8], start: u32, size: u32) -> bool
     requires start { start < size }

@@ -27,7 +27,7 @@ use slicer_queue::Slicer;
 use soup_cells::Soup;
 use std::alloc::Global;
 use tierra_model::{Block, Creature, OutOfMemory};
-use world_state::{Draft, Found, blocks_in, genotypes_from};
+use world_state::{Draft, StoredGenotype, blocks_in, genotypes_from};
 
 /// The world of a sound draft.
 pub(crate) fn world_from(alloc: Global, draft: Draft) -> Result<World, OutOfMemory>
@@ -39,7 +39,7 @@ pub(crate) fn world_from(alloc: Global, draft: Draft) -> Result<World, OutOfMemo
     let population = population_from(alloc, &draft.living, &draft.slicer, &draft.reaper)?;
     let blocks = blocks_from(alloc, size, &draft.living)?;
     let census = census_from(alloc, &draft.living)?;
-    let genotypes = all_genotypes(alloc, &draft.founds)?;
+    let genotypes = all_genotypes(alloc, &draft.stored)?;
     let genes = Genes::of(genotypes, draft.saved);
     let counts = Counts {
         births: draft.births,
@@ -186,11 +186,11 @@ fn census_from(alloc: Global, living: &[Creature]) -> Result<Census, OutOfMemory
 // ---- the genotypes
 
 // The genotypes that were read, no two of which have the same code.
-fn all_genotypes(alloc: Global, founds: &[Found]) -> Result<Genotypes, OutOfMemory>
-    requires codes { All (λ f. IsCode f.code) founds.now }
-    requires once { (code : List ℕ) → times_coded (genotypes_of founds.now) code ≤ 1 }
-    ensures { IfOk result (λ g. g.genotypes ≡ genotypes_of founds.now) }
+fn all_genotypes(alloc: Global, stored: &[StoredGenotype]) -> Result<Genotypes, OutOfMemory>
+    requires codes { All (λ f. IsCode f.code) stored.now }
+    requires once { (code : List ℕ) → times_coded (genotypes_of stored.now) code ≤ 1 }
+    ensures { IfOk result (λ g. g.genotypes ≡ genotypes_of stored.now) }
 {
-    let found = genotypes_from(alloc, founds)?;
+    let found = genotypes_from(alloc, stored)?;
     Ok(found.unwrap())
 }

@@ -20,7 +20,7 @@ use Rattle.tierra_model.specs.Counting.{one_if, times_in}
 use Rattle.tierra_model.specs.Living.{ids_of}
 use Rattle.tierra_model.specs.Sound.{IsSound, Ordered, count_limit, numbers_of, times_coded}
 use Rattle.tierra_model.specs.World.{Genotype, World, genotype_at}
-use Rattle.world_state.specs.declared.fields.Found.{Found}
+use Rattle.world_state.specs.declared.fields.StoredGenotype.{StoredGenotype}
 use Rattle.byte_fields.specs.declared.stop.Stop.TheVariants as stop
 use Rattle.world_state.specs.declared.saving.Saving.{Saving}
 use Rattle.world_state.specs.Checks.{apart_step, are_found, are_living, are_saved, blocks_in, is_code_number, passes, size_step}
@@ -170,7 +170,7 @@ coded-or-not (g ∷ gs) =
         own false e o = absurd cc
 
 -- genotypes that there are not
-total-past : (fs : List Found) (k : ℕ) → length fs ≤ k → (genotype_at (genotypes_of fs) k).total ≡ 0
+total-past : (fs : List StoredGenotype) (k : ℕ) → length fs ≤ k → (genotype_at (genotypes_of fs) k).total ≡ 0
 total-past [] k le = refl
 total-past (f ∷ fs) zero le = absurd (omega (arith, le))
 total-past (f ∷ fs) (suc k) le = total-past fs k (omega (arith, le))
@@ -187,17 +187,17 @@ saved-past n k (s ∷ ss) all le =
     omega (arith, low, rest)
 
 -- as often saved as it should be
-abbrev IsDue : ℕ → List Found → List Saving → ℕ → Type 0
+abbrev IsDue : ℕ → List StoredGenotype → List Saving → ℕ → Type 0
 IsDue at fs ss k = times_in (numbers_of (savings_of ss)) k ≡ one_if (nat_le at (genotype_at (genotypes_of fs) k).total)
 
-due-past : (at : ℕ) (fs : List Found) (ss : List Saving) (k : ℕ) → 1 ≤ at → All (λ s. s.genotype < length fs) ss → length fs ≤ k
+due-past : (at : ℕ) (fs : List StoredGenotype) (ss : List Saving) (k : ℕ) → 1 ≤ at → All (λ s. s.genotype < length fs) ss → length fs ≤ k
     → IsDue at fs ss k
 due-past at fs ss k one known past = saved-past (length fs) k ss known past ∙ sym (low (total-past fs k past))
   where
     low : (genotype_at (genotypes_of fs) k).total ≡ 0 → one_if (nat_le at (genotype_at (genotypes_of fs) k).total) ≡ 0
     low none = grind (arith, nat_tests)
 
-due-all : (at : ℕ) (fs : List Found) (ss : List Saving) → 1 ≤ at → All (λ s. s.genotype < length fs) ss
+due-all : (at : ℕ) (fs : List StoredGenotype) (ss : List Saving) → 1 ≤ at → All (λ s. s.genotype < length fs) ss
     → ((k : ℕ) → k < length fs → IsDue at fs ss k) → AreDue at (genotypes_of fs) (savings_of ss)
 due-all at fs ss one known rows k =
     elim (cases_lt k (length fs)) [
@@ -205,7 +205,7 @@ due-all at fs ss one known rows k =
       | inr past ↦ due-past at fs ss k one known past
     ]
 
-due-or-not : (at : ℕ) (fs : List Found) (ss : List Saving) → 1 ≤ at → OrNot (AreDue at (genotypes_of fs) (savings_of ss))
+due-or-not : (at : ℕ) (fs : List StoredGenotype) (ss : List Saving) → 1 ≤ at → OrNot (AreDue at (genotypes_of fs) (savings_of ss))
 due-or-not at fs ss one =
     by-or-not (All (λ (s : Saving). s.genotype < length fs) ss × ((k : ℕ) → k < length fs → IsDue at fs ss k))
     (AreDue at (genotypes_of fs) (savings_of ss)) (λ h. due-all at fs ss one h.0 h.1)
@@ -244,8 +244,8 @@ module _ (chosen : Settings) (parts : StateParts) (living : List Creature) (move
   abbrev line : List Creature
   line = parts.1.1.0
 
-  abbrev founds : List Found
-  founds = parts.1.1.1.1.0
+  abbrev stored : List StoredGenotype
+  stored = parts.1.1.1.1.0
 
   abbrev saved : List Saving
   saved = parts.1.1.1.1.1
@@ -258,7 +258,7 @@ module _ (chosen : Settings) (parts : StateParts) (living : List Creature) (move
       by-or-not
       ((length told.soup ≡ chosen.soup_size) × (All (λ v. v < 32) told.soup
       × (AreLiving chosen.soup_size (length told.genotypes) told.next_birth (count_limit told.quanta) living
-      × (AreGenotypes (count_limit told.quanta) (genotypes_of founds) × AreSavings told.quanta (savings_of saved)))))
+      × (AreGenotypes (count_limit told.quanta) (genotypes_of stored) × AreSavings told.quanta (savings_of saved)))))
       (HasParts told)
       (λ h. record { cells = h.0; codes = h.1.0; living = h.1.1.0; genotypes = h.1.1.1.0; saved = h.1.1.1.1 })
       (λ p. (p.cells, (p.codes, (p.living, (p.genotypes, p.saved)))))
@@ -267,7 +267,7 @@ module _ (chosen : Settings) (parts : StateParts) (living : List Creature) (move
       (both-or-not _ _
       (test-or-not (are_living chosen.soup_size (length told.genotypes) told.next_birth (count_limit told.quanta) living) _
       (living-decide chosen.soup_size (length told.genotypes) told.next_birth (count_limit told.quanta) living))
-      (both-or-not _ _ (test-or-not (are_found (count_limit told.quanta) founds) _ (found-decide (count_limit told.quanta) founds))
+      (both-or-not _ _ (test-or-not (are_found (count_limit told.quanta) stored) _ (found-decide (count_limit told.quanta) stored))
       (test-or-not (are_saved told.quanta saved) _ (saved-decide told.quanta saved))))))
 
   apart-or-not : HasParts told → OrNot (IsApart told)
@@ -278,8 +278,8 @@ module _ (chosen : Settings) (parts : StateParts) (living : List Creature) (move
   matched-or-not : HasParts told → OrNot (IsMatched told)
   matched-or-not p =
       by-or-not
-      (AreSame told.reaper (ids_of living) × (IsApart told × (AreCodedOnce (genotypes_of founds)
-      × AreDue chosen.save_at (genotypes_of founds) (savings_of saved))))
+      (AreSame told.reaper (ids_of living) × (IsApart told × (AreCodedOnce (genotypes_of stored)
+      × AreDue chosen.save_at (genotypes_of stored) (savings_of saved))))
       (IsMatched told)
       (λ h. record {
         slicer = λ id. sym (times-permuted line living moved id);
@@ -291,11 +291,11 @@ module _ (chosen : Settings) (parts : StateParts) (living : List Creature) (move
       (λ m. (m.reaper, (m.apart, (m.coded_once, m.saved))))
       (both-or-not _ _ (same-or-not told.reaper (ids_of living) (ordered-lower (ids_of living) p.living.ordered))
       (both-or-not _ _ (apart-or-not p)
-      (both-or-not _ _ (coded-or-not (genotypes_of founds)) (due-or-not chosen.save_at founds saved chosen.saving.0))))
+      (both-or-not _ _ (coded-or-not (genotypes_of stored)) (due-or-not chosen.save_at stored saved chosen.saving.0))))
 
   sizes-or-not : HasParts told → OrNot (HasSizes told)
   sizes-or-not p =
-      test-or-not (passes (size_step founds) (0, 0) saved) (HasSizes told) (sizes-are founds saved p.saved.rising)
+      test-or-not (passes (size_step stored) (0, 0) saved) (HasSizes told) (sizes-are stored saved p.saved.rising)
 
   sound-or-not : OrNot (IsSound told)
   sound-or-not =

@@ -16,7 +16,7 @@ use Rattle.tierra_model.specs.Ranges.{AreEfforts, IsBlock, IsCode}
 use Rattle.tierra_model.specs.Sound.{IsPlaced, Ordered, ParentsBelow, Rising, saved_size}
 use Rattle.tierra_model.specs.World.{Genotype, genotype_at, Saving as ModelSaving}
 use Rattle.tierra_model.proofs.Each.{Each}
-use Rattle.world_state.specs.declared.fields.Found.{Found}
+use Rattle.world_state.specs.declared.fields.StoredGenotype.{StoredGenotype}
 use Rattle.world_state.specs.declared.saving.Saving.{Saving}
 use Rattle.world_state.specs.Checks.{counted, has_counts, has_places, is_block_in, is_code, is_code_number, is_daughter_in, is_effort, is_genotype, is_parent}
 use Rattle.world_state.specs.Checks.{is_placed, is_saving, no_found, number_step, parent_step, passes, rising_step, size_step}
@@ -84,10 +84,10 @@ code-decides code =
     (both-decide (nat_le 1 (length code)) (nat_le (length code) MOST_SIZE) _ _ (le-decides 1 (length code)) (le-decides (length code) MOST_SIZE))
     (all-decides is_code_number (λ v. v < 32) cell-decides code)
 
-abbrev pub IsGenotypeIn : ℕ → Found → Type 0
+abbrev pub IsGenotypeIn : ℕ → StoredGenotype → Type 0
 IsGenotypeIn limit f = IsCode f.code × (f.total ≤ limit) × AreEfforts f.first_effort f.second_effort
 
-pub genotype-decides : (limit : ℕ) (f : Found) → (is_genotype limit f ≡ true) ↔ IsGenotypeIn limit f
+pub genotype-decides : (limit : ℕ) (f : StoredGenotype) → (is_genotype limit f ≡ true) ↔ IsGenotypeIn limit f
 genotype-decides limit f =
     let one = both-decide (is_code f.code) (nat_le f.total limit) _ _ (code-decides f.code) (le-decides f.total limit) in
     let two = both-decide (is_code f.code && nat_le f.total limit) (is_effort f.first_effort) _ _ one (effort-decides f.first_effort) in
@@ -125,7 +125,7 @@ parent-decides : (k : ℕ) (o : Option ℕ) → (is_parent k o ≡ true) ↔ IfS
 parent-decides k None = (λ e. tt, λ h. refl)
 parent-decides k (Some p) = lt-decides p k
 
-pub parents-decide : (k : ℕ) (fs : List Found) → (passes parent_step k fs ≡ true) ↔ ParentsBelow k (genotypes_of fs)
+pub parents-decide : (k : ℕ) (fs : List StoredGenotype) → (passes parent_step k fs ≡ true) ↔ ParentsBelow k (genotypes_of fs)
 parents-decide k [] = (λ e. tt, λ h. passes-none parent_step k)
 parents-decide k (f ∷ fs) = (
   λ e. (let s = passed-first parent_step k f fs e in
@@ -145,7 +145,7 @@ rising-decides q (x ∷ ss) = (
 
 -- ---- the sizes of quanta
 
-size-same : (fs : List Found) (k : ℕ) → length (slice_index_or fs k no_found).code ≡ length (genotype_at (genotypes_of fs) k).code
+size-same : (fs : List StoredGenotype) (k : ℕ) → length (slice_index_or fs k no_found).code ≡ length (genotype_at (genotypes_of fs) k).code
 size-same [] k = refl
 size-same (f ∷ fs) zero = refl
 size-same (f ∷ fs) (suc k) = size-same fs k
@@ -169,14 +169,14 @@ none-earlier gs q r (s ∷ ss) up lt =
     omega (arith, rest, other)
 
 -- what was counted of the quantum, and what comes of it
-abbrev pub in_all : List Found → ℕ × ℕ → List Saving → ℕ → ℕ
+abbrev pub in_all : List StoredGenotype → ℕ × ℕ → List Saving → ℕ → ℕ
 in_all fs run ss r = (if r == run.0 then run.1 else 0) + saved_size (genotypes_of fs) (savings_of ss) r
 
-record Cases (fs : List Found) (run : ℕ × ℕ) (s : Saving) (ss : List Saving) : Type 0 where
+record Cases (fs : List StoredGenotype) (run : ℕ × ℕ) (s : Saving) (ss : List Saving) : Type 0 where
   here : in_all fs run (s ∷ ss) s.quantum ≡ counted fs run s + saved_size (genotypes_of fs) (savings_of ss) s.quantum
   after : in_all fs (s.quantum, counted fs run s) ss s.quantum ≡ counted fs run s + saved_size (genotypes_of fs) (savings_of ss) s.quantum
 
-cases-of : (fs : List Found) (run : ℕ × ℕ) (s : Saving) (ss : List Saving) → Cases fs run s ss
+cases-of : (fs : List StoredGenotype) (run : ℕ × ℕ) (s : Saving) (ss : List Saving) → Cases fs run s ss
 cases-of fs run s ss =
     let gs = genotypes_of fs in
     let size : ℕ = length (genotype_at gs s.genotype).code + 100 in
@@ -185,19 +185,20 @@ cases-of fs run s ss =
     let two = when_same s.quantum (counted fs run s) in
     record { here = omega (arith, one, same); after = omega (arith, two) }
 
-other-here : (fs : List Found) (run : ℕ × ℕ) (s : Saving) (ss : List Saving) (r : ℕ) → (s.quantum ≡ r → ⊥)
+other-here : (fs : List StoredGenotype) (run : ℕ × ℕ) (s : Saving) (ss : List Saving) (r : ℕ) → (s.quantum ≡ r → ⊥)
     → in_all fs run (s ∷ ss) r ≡ in_all fs run ss r
 other-here fs run s ss r other =
     let gs = genotypes_of fs in
     let none = when_other s.quantum r (length (genotype_at gs s.genotype).code + 100) other in
     omega (arith, none)
 
-other-after : (fs : List Found) (q n : ℕ) (ss : List Saving) (r : ℕ) → (q ≡ r → ⊥) → in_all fs (q, n) ss r ≡ saved_size (genotypes_of fs) (savings_of ss) r
+other-after : (fs : List StoredGenotype) (q n : ℕ) (ss : List Saving) (r : ℕ) → (q ≡ r → ⊥)
+    → in_all fs (q, n) ss r ≡ saved_size (genotypes_of fs) (savings_of ss) r
 other-after fs q n ss r other =
     let none = when_other r q n (λ e. other (sym e)) in
     omega (arith, none)
 
-pub sizes-decide : (fs : List Found) (q n : ℕ) (ss : List Saving) → Rising q (savings_of ss) → n < 2 ^ 30
+pub sizes-decide : (fs : List StoredGenotype) (q n : ℕ) (ss : List Saving) → Rising q (savings_of ss) → n < 2 ^ 30
     → (passes (size_step fs) (q, n) ss ≡ true) ↔ ((r : ℕ) → in_all fs (q, n) ss r < 2 ^ 30)
 sizes-decide fs q n [] up few = (λ e r. few_at r (cases_eq r q), λ h. passes-none (size_step fs) (q, n))
   where

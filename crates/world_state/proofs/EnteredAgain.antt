@@ -11,7 +11,7 @@ use Rattle.tierra_model.specs.Sound.{times_coded}
 use Rattle.tierra_model.specs.World.{Genotype}
 use Rattle.tierra_model.proofs.Owners.{sum_of-append}
 use Rattle.genotyper.specs.Genotypes.{new_genotype}
-use Rattle.world_state.specs.declared.fields.Found.{Found}
+use Rattle.world_state.specs.declared.fields.StoredGenotype.{StoredGenotype}
 use Rattle.world_state.specs.Checks.{noted}
 use Rattle.world_state.specs.Reading.{genotype_of, genotypes_of}
 
@@ -20,7 +20,7 @@ last-noted : (bred : ℕ) (e : Effort) (gs : List Genotype) (g : Genotype)
 last-noted bred e [] g = refl
 last-noted bred e (x ∷ gs) g = ap (λ (l : List Genotype). x ∷ l) (last-noted bred e gs g)
 
-pub entered : (gs : List Genotype) (f : Found)
+pub entered : (gs : List Genotype) (f : StoredGenotype)
     → noted (length gs) 2 f.second_effort (noted (length gs) 1 f.first_effort (gs ++ new_genotype f.code f.parent f.first_quantum f.total ∷ []))
     ≡ gs ++ genotype_of f ∷ []
 entered gs f = go f.first_effort f.second_effort
@@ -85,7 +85,7 @@ once-more gs g once none code =
 same-code : (code : List ℕ) → bytes_eq code code ≡ true
 same-code code = (bytes_eq-Decides code code).1 refl
 
-part-coded : (code : List ℕ) (fs : List Found) (k : ℕ) (d : Found) → k < length fs → (get_or fs k d).code ≡ code
+part-coded : (code : List ℕ) (fs : List StoredGenotype) (k : ℕ) (d : StoredGenotype) → k < length fs → (get_or fs k d).code ≡ code
     → times_coded (genotypes_of (take k fs)) code + 1 ≤ times_coded (genotypes_of fs) code
 part-coded code [] k d lt is = absurd (omega (arith, lt))
 part-coded code (f ∷ fs) zero d lt is =
@@ -94,7 +94,7 @@ part-coded code (f ∷ fs) zero d lt is =
 part-coded code (f ∷ fs) (suc k) d lt is =
     let rest = part-coded code fs k d (omega (arith, lt)) is in omega (arith, rest)
 
-pub coded-twice : (code : List ℕ) (fs : List Found) (k : ℕ) (d : Found) → k < length fs → (get_or fs k d).code ≡ code
+pub coded-twice : (code : List ℕ) (fs : List StoredGenotype) (k : ℕ) (d : StoredGenotype) → k < length fs → (get_or fs k d).code ≡ code
     → (genotype_number code (genotypes_of (take k fs)) ≡ None → ⊥) → OnceCoded (genotypes_of fs) → ⊥
 coded-twice code fs k d lt is some once =
     let here = coded-some code (genotypes_of (take k fs)) some in
@@ -115,13 +115,13 @@ pub length-more : (gs : List Genotype) (g : Genotype) → length gs < length (gs
 length-more [] g = omega arith
 length-more (x ∷ gs) g = (let rest = length-more gs g in omega (arith, rest))
 
-next-taken : (fs : List Found) (k : ℕ) (d : Found) → k < length fs
+next-taken : (fs : List StoredGenotype) (k : ℕ) (d : StoredGenotype) → k < length fs
     → genotypes_of (take (suc k) fs) ≡ genotypes_of (take k fs) ++ genotype_of (get_or fs k d) ∷ []
 next-taken [] k d lt = absurd (omega (arith, lt))
 next-taken (f ∷ fs) zero d lt = refl
 next-taken (f ∷ fs) (suc k) d lt = ap (λ (l : List Genotype). genotype_of f ∷ l) (next-taken fs k d (omega (arith, lt)))
 
-pub one-taken : (fs : List Found) (k : ℕ) (d : Found) → k < length fs
+pub one-taken : (fs : List StoredGenotype) (k : ℕ) (d : StoredGenotype) → k < length fs
     → genotypes_of (take (k + 1) fs) ≡ genotypes_of (take k fs) ++ genotype_of (get_or fs k d) ∷ []
 one-taken fs k d lt =
     let next : suc k ≡ k + 1 = omega arith in

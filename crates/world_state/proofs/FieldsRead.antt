@@ -17,7 +17,7 @@ use Rattle.byte_fields.proofs.Fields.{reads_eight, reads_eights, reads_four, rea
 use Rattle.tierra_model.specs.declared.creatures.Block.{Block}
 use Rattle.tierra_model.specs.declared.creatures.Creature.{Creature}
 use Rattle.tierra_model.specs.declared.creatures.Effort.{Effort}
-use Rattle.world_state.specs.declared.fields.Found.{Found}
+use Rattle.world_state.specs.declared.fields.StoredGenotype.{StoredGenotype}
 use Rattle.world_state.specs.declared.saving.Saving.{Saving}
 use Rattle.world_state.specs.StateBytes.{block_bytes, body_bytes, count_bytes, creature_bytes, daughter_bytes, genotype_bytes, parent_bytes, processor_bytes}
 use Rattle.world_state.specs.StateBytes.{register_bytes, registers_bytes, saving_bytes, stack_bytes}
@@ -288,13 +288,13 @@ FoundPartsFit p = Short (length p.0) × DetailsFit p.1
 abbrev found_text : FoundParts → List ℕ
 found_text p = sized_text p.0 ++ details_text p.1
 
-abbrev found_parts : Found → FoundParts
+abbrev found_parts : StoredGenotype → FoundParts
 found_parts f = (f.code, (f.parent, (f.first_quantum, (f.total, (f.first_effort, f.second_effort)))))
 
-abbrev pub FoundFits : Found → Type 0
+abbrev pub FoundFits : StoredGenotype → Type 0
 FoundFits f = FoundPartsFit (found_parts f)
 
-found-text : (f : Found) → found_text (found_parts f) ≡ genotype_bytes (genotype_of f)
+found-text : (f : StoredGenotype) → found_text (found_parts f) ≡ genotype_bytes (genotype_of f)
 unfolding genotype_bytes
 found-text f =
     grouped-7 (four (length f.code)) f.code (parent_bytes f.parent) (eight f.first_quantum) (eight f.total)

@@ -12,7 +12,7 @@ use Rattle.tierra_model.specs.Ranges.{AreEfforts, IsCode}
 use Rattle.tierra_model.specs.Sound.{IsPlaced, IsSound, Ordered, Rising, numbers_of, saved_size}
 use Rattle.tierra_model.specs.World.{Genotype, Saving as ModelSaving, World, genotype_at}
 use Rattle.tierra_model.proofs.Each.{Each, all_from_each, each-map, each_from_all}
-use Rattle.world_state.specs.declared.fields.Found.{Found}
+use Rattle.world_state.specs.declared.fields.StoredGenotype.{StoredGenotype}
 use Rattle.world_state.specs.declared.saving.Saving.{Saving}
 use Rattle.world_state.specs.Checks.{are_found, are_living, are_saved, has_counts, has_places, is_genotype, is_placed, is_saving, no_found, number_step}
 use Rattle.world_state.specs.Checks.{parent_step, passes, rising_step, size_step}
@@ -87,24 +87,25 @@ living-decide n count next limit xs =
 
 -- ---- genotypes and savings
 
-pub found-decide : (limit : ℕ) (fs : List Found) → (are_found limit fs ≡ true) ↔ AreGenotypes limit (genotypes_of fs)
+pub found-decide : (limit : ℕ) (fs : List StoredGenotype) → (are_found limit fs ≡ true) ↔ AreGenotypes limit (genotypes_of fs)
 found-decide limit fs =
     let both = both-decide (list_all (is_genotype limit) fs) (passes parent_step 0 fs) _ _
     (all-decides (is_genotype limit) (IsGenotypeIn limit) (genotype-decides limit) fs) (parents-decide 0 fs) in (
       λ h. (let p = both.0 h in record {
-        written = All-map (λ (g : Genotype). IsCode g.code) genotype_of fs (All-weaker (IsGenotypeIn limit) (λ (f : Found). IsCode f.code) (λ f q. q.0) fs p.0);
+        written = All-map (λ (g : Genotype). IsCode g.code) genotype_of fs
+            (All-weaker (IsGenotypeIn limit) (λ (f : StoredGenotype). IsCode f.code) (λ f q. q.0) fs p.0);
         parents = p.1;
         totals = All-map (λ (g : Genotype). g.total ≤ limit) genotype_of fs
-            (All-weaker (IsGenotypeIn limit) (λ (f : Found). f.total ≤ limit) (λ f q. q.1) fs p.0);
+            (All-weaker (IsGenotypeIn limit) (λ (f : StoredGenotype). f.total ≤ limit) (λ f q. q.1) fs p.0);
         efforts = All-map (λ (g : Genotype). AreEfforts g.first_effort g.second_effort) genotype_of fs
-            (All-weaker (IsGenotypeIn limit) (λ (f : Found). AreEfforts f.first_effort f.second_effort) (λ f q. (q.2.0, q.2.1)) fs p.0);
+            (All-weaker (IsGenotypeIn limit) (λ (f : StoredGenotype). AreEfforts f.first_effort f.second_effort) (λ f q. (q.2.0, q.2.1)) fs p.0);
       }),
       λ h. both.1 (
-        All-weaker (λ (f : Found). IsCode f.code × ((f.total ≤ limit) × AreEfforts f.first_effort f.second_effort)) (IsGenotypeIn limit)
+        All-weaker (λ (f : StoredGenotype). IsCode f.code × ((f.total ≤ limit) × AreEfforts f.first_effort f.second_effort)) (IsGenotypeIn limit)
             (λ f q. (q.0, q.1.0, q.1.1)) fs
-            (together (λ (f : Found). IsCode f.code) (λ (f : Found). (f.total ≤ limit) × AreEfforts f.first_effort f.second_effort) fs
+            (together (λ (f : StoredGenotype). IsCode f.code) (λ (f : StoredGenotype). (f.total ≤ limit) × AreEfforts f.first_effort f.second_effort) fs
             (unmapped (λ (g : Genotype). IsCode g.code) genotype_of fs h.written)
-            (together (λ (f : Found). f.total ≤ limit) (λ (f : Found). AreEfforts f.first_effort f.second_effort) fs
+            (together (λ (f : StoredGenotype). f.total ≤ limit) (λ (f : StoredGenotype). AreEfforts f.first_effort f.second_effort) fs
             (unmapped (λ (g : Genotype). g.total ≤ limit) genotype_of fs h.totals)
             (unmapped (λ (g : Genotype). AreEfforts g.first_effort g.second_effort) genotype_of fs h.efforts))),
         h.parents,
@@ -132,12 +133,12 @@ saved-decide quanta ss =
 
 -- ---- those that are saved
 
-pub total-same : (fs : List Found) (k : ℕ) → (slice_index_or fs k no_found).total ≡ (genotype_at (genotypes_of fs) k).total
+pub total-same : (fs : List StoredGenotype) (k : ℕ) → (slice_index_or fs k no_found).total ≡ (genotype_at (genotypes_of fs) k).total
 total-same [] k = refl
 total-same (f ∷ fs) zero = refl
 total-same (f ∷ fs) (suc k) = total-same fs k
 
-none-past : (fs : List Found) (k : ℕ) → length fs ≤ k → (slice_index_or fs k no_found).total ≡ 0
+none-past : (fs : List StoredGenotype) (k : ℕ) → length fs ≤ k → (slice_index_or fs k no_found).total ≡ 0
 none-past [] k le = refl
 none-past (f ∷ fs) zero le = absurd (omega (arith, le))
 none-past (f ∷ fs) (suc k) le = none-past fs k (omega (arith, le))
@@ -151,7 +152,7 @@ saved-each n (s ∷ ss) h =
     here : (x : ℕ) (xs : List ℕ) → 0 < times_in (x ∷ xs) x
     here x xs = grind (arith, nat_tests)
 
-pub saved-known : (at : ℕ) (fs : List Found) (ss : List Saving) → 1 ≤ at
+pub saved-known : (at : ℕ) (fs : List StoredGenotype) (ss : List Saving) → 1 ≤ at
     → ((k : ℕ) → times_in (numbers_of (savings_of ss)) k ≡ one_if (nat_le at (genotype_at (genotypes_of fs) k).total)) → All (λ s. s.genotype < length fs) ss
 saved-known at fs ss one each = saved-each (length fs) ss (λ k m. go k m (nat_lt k (length fs)) refl)
   where
@@ -164,18 +165,18 @@ saved-known at fs ss one each = saved-each (length fs) ss (λ k m. go k m (nat_l
         let low : one_if (nat_le at (genotype_at (genotypes_of fs) k).total) ≡ 0 = grind (arith, nat_tests) in
         absurd (omega (arith, m, times, low))
 
-pub codes-short : (fs : List Found) → All (λ g. IsCode g.code) (genotypes_of fs) → All (λ f. length f.code ≤ MOST_SIZE) fs
-codes-short fs h = All-weaker (λ (f : Found). IsCode f.code) (λ (f : Found). length f.code ≤ MOST_SIZE)
+pub codes-short : (fs : List StoredGenotype) → All (λ g. IsCode g.code) (genotypes_of fs) → All (λ f. length f.code ≤ MOST_SIZE) fs
+codes-short fs h = All-weaker (λ (f : StoredGenotype). IsCode f.code) (λ (f : StoredGenotype). length f.code ≤ MOST_SIZE)
     (λ f q. q.1) fs (unmapped (λ (g : Genotype). IsCode g.code) genotype_of fs h)
 
-pub codes-written : (fs : List Found) → All (λ g. IsCode g.code) (genotypes_of fs) → All (λ f. IsCode f.code) fs
+pub codes-written : (fs : List StoredGenotype) → All (λ g. IsCode g.code) (genotypes_of fs) → All (λ f. IsCode f.code) fs
 codes-written fs h = unmapped (λ (g : Genotype). IsCode g.code) genotype_of fs h
 
 no_run : (b : Bool) → ◌≡◌ {A = ℕ} (if b then 0 else 0) 0
 no_run true = refl
 no_run false = refl
 
-pub sizes-are : (fs : List Found) (ss : List Saving) → Rising 0 (savings_of ss)
+pub sizes-are : (fs : List StoredGenotype) (ss : List Saving) → Rising 0 (savings_of ss)
     → (passes (size_step fs) (0, 0) ss ≡ true) ↔ ((q : ℕ) → saved_size (genotypes_of fs) (savings_of ss) q < 2 ^ 30)
 sizes-are fs ss up =
     let is = sizes-decide fs 0 0 ss up (omega arith) in (

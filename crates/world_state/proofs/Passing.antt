@@ -5,7 +5,7 @@ use Rattle.std.specs.Prelude.{if◌then◌else◌, pos, nat_le, nat_lt, unwrap_o
 use Rattle.std.proofs.lemmas.Bool.Decides.{nat_tests}
 use Rattle.tierra_model.specs.declared.creatures.Block.{Block}
 use Rattle.tierra_model.specs.declared.creatures.Creature.{Creature}
-use Rattle.world_state.specs.declared.fields.Found.{Found}
+use Rattle.world_state.specs.declared.fields.StoredGenotype.{StoredGenotype}
 use Rattle.world_state.specs.declared.saving.Saving.{Saving}
 use Rattle.world_state.specs.Checks.{apart_step, counted, is_parent, number_step, parent_step, passes, rising_step, size_step}
 
@@ -78,10 +78,10 @@ number-high next low c le =
     let isnt : (nat_le low c.id && nat_lt c.id next) ≡ false = grind (arith, nat_tests) in
     rw isnt refl
 
-pub parent-on : (k : ℕ) (f : Found) → is_parent k f.parent ≡ true → parent_step k f ≡ Some (k + 1)
+pub parent-on : (k : ℕ) (f : StoredGenotype) → is_parent k f.parent ≡ true → parent_step k f ≡ Some (k + 1)
 parent-on k f below = rw below refl
 
-pub parent-not : (k : ℕ) (f : Found) → is_parent k f.parent ≡ false → parent_step k f ≡ None
+pub parent-not : (k : ℕ) (f : StoredGenotype) → is_parent k f.parent ≡ false → parent_step k f ≡ None
 parent-not k f above = rw above refl
 
 pub rising-on : (q : ℕ) (s : Saving) → q ≤ s.quantum → rising_step q s ≡ Some s.quantum
@@ -94,19 +94,19 @@ rising-not q s lt =
     let isnt : nat_le q s.quantum ≡ false = grind (arith, nat_tests) in
     rw isnt refl
 
-pub size-on : (founds : List Found) (run : ℕ × ℕ) (s : Saving) (n : ℕ) → n ≡ counted founds run s → n < 2 ^ 30
-    → size_step founds run s ≡ Some (s.quantum, n)
-size-on founds run s n same lt =
-    let is : nat_lt (counted founds run s) (2 ^ 30) ≡ true = few (counted founds run s) (subst (λ m. m < 2 ^ 30) same lt) in
+pub size-on : (stored : List StoredGenotype) (run : ℕ × ℕ) (s : Saving) (n : ℕ) → n ≡ counted stored run s → n < 2 ^ 30
+    → size_step stored run s ≡ Some (s.quantum, n)
+size-on stored run s n same lt =
+    let is : nat_lt (counted stored run s) (2 ^ 30) ≡ true = few (counted stored run s) (subst (λ m. m < 2 ^ 30) same lt) in
     rw is (ap (λ (m : ℕ). Some (s.quantum, m)) (sym same))
   where
     few : (m : ℕ) → m < 2 ^ 30 → nat_lt m (2 ^ 30) ≡ true
     few m lt = grind (arith, nat_tests)
 
-pub size-not : (founds : List Found) (run : ℕ × ℕ) (s : Saving) (n : ℕ) → n ≡ counted founds run s → 2 ^ 30 ≤ n
-    → size_step founds run s ≡ None
-size-not founds run s n same le =
-    let isnt : nat_lt (counted founds run s) (2 ^ 30) ≡ false = many (counted founds run s) (subst (λ m. 2 ^ 30 ≤ m) same le) in
+pub size-not : (stored : List StoredGenotype) (run : ℕ × ℕ) (s : Saving) (n : ℕ) → n ≡ counted stored run s → 2 ^ 30 ≤ n
+    → size_step stored run s ≡ None
+size-not stored run s n same le =
+    let isnt : nat_lt (counted stored run s) (2 ^ 30) ≡ false = many (counted stored run s) (subst (λ m. 2 ^ 30 ≤ m) same le) in
     rw isnt refl
   where
     many : (m : ℕ) → 2 ^ 30 ≤ m → nat_lt m (2 ^ 30) ≡ false

@@ -25,7 +25,7 @@ use Rattle.byte_fields.specs.Reading.{Stops, both, counted_at, eight_at, eights_
 use Rattle.byte_fields.specs.Writing.{IsLongEffort, eight, four}
 use Rattle.byte_fields.proofs.Exact.{Counted, Listed, reads_both, reads_counted, reads_list, reads_pair}
 use Rattle.byte_fields.proofs.Fields.{Long, LongPair, Short, eights_text, reads_eight, reads_eights, reads_four, reads_sized, sized_text}
-use Rattle.world_state.specs.declared.fields.Found.{Found}
+use Rattle.world_state.specs.declared.fields.StoredGenotype.{StoredGenotype}
 use Rattle.world_state.specs.declared.saving.Saving.{Saving}
 use Rattle.world_state.specs.Reading.{StateParts, creature_at, found_at, genotype_of, genotypes_of, saving_at, state_at}
 use Rattle.world_state.specs.Restoring.{AreBytesOf, FitsTypes, HasLongNumbers, HasWords}
@@ -36,7 +36,7 @@ use Rattle.world_state.proofs.FieldsRead.{CreatureFits, FoundFits, SavingFits, g
 use Rattle.world_state.proofs.LineOrder.{AreHere, are-here, ids-of_line, line_of, sorted-again}
 use Rattle.world_state.proofs.SlicerLength.{length-slicer}
 
-abbrev found_of : Genotype → Found
+abbrev found_of : Genotype → StoredGenotype
 found_of g =
     record {
       code = g.code;
@@ -59,7 +59,7 @@ parts_of_world w =
 abbrev line_text : List Creature → List ℕ
 line_text cs = four (length cs) ++ flat_map creature_bytes cs
 
-abbrev founds_text : List Found → List ℕ
+abbrev founds_text : List StoredGenotype → List ℕ
 founds_text fs = eight (length fs) ++ flat_map (λ f. genotype_bytes (genotype_of f)) fs
 
 abbrev savings_text : List Saving → List ℕ
@@ -69,7 +69,7 @@ abbrev counts_text : (ℕ × ℕ) × (ℕ × ℕ) → List ℕ
 counts_text p = (eight p.0.0 ++ eight p.0.1) ++ (eight p.1.0 ++ eight p.1.1)
 
 abbrev Genes : Type 0
-Genes = List Found × List Saving
+Genes = List StoredGenotype × List Saving
 
 abbrev GenesFit : Genes → Type 0
 GenesFit p = Counted (2 ^ 64) FoundFits p.0 × Counted (2 ^ 64) SavingFits p.1
@@ -153,7 +153,7 @@ same-text w s =
     let soup : four w.settings.soup_size ++ w.soup ≡ four (length w.soup) ++ w.soup = ap (λ (n : ℕ). four n ++ w.soup) (sym s.cells) in
     let line : four (length w.living) ++ flat_map creature_bytes (line_of w) ≡ line_text (line_of w) =
     ap (λ (n : ℕ). four n ++ flat_map creature_bytes (line_of w)) (sym (line-length w s)) in
-    let founds : eight (length w.genotypes) ++ flat_map genotype_bytes w.genotypes ≡ founds_text (map found_of w.genotypes) =
+    let stored : eight (length w.genotypes) ++ flat_map genotype_bytes w.genotypes ≡ founds_text (map found_of w.genotypes) =
     ap₂ (λ (n : ℕ) (l : List ℕ). eight n ++ l) (sym (length-map w.genotypes found_of))
     (sym (flat_map-map (λ f. genotype_bytes (genotype_of f)) found_of w.genotypes)) in
     let saved : eight (length w.saved) ++ flat_map saving_bytes w.saved ≡ savings_text (map stored_of w.saved) =
@@ -161,7 +161,7 @@ same-text w s =
     (sym (flat_map-map (λ t. saving_bytes (saving_of t)) stored_of w.saved)) in
     let counts : List ℕ = counts_text ((w.quanta, w.births), (w.deaths, w.next_birth)) in
     let reaper : List ℕ = flat_map eight w.reaper in
-    (λ i. soup i ++ counts ++ line i ++ reaper ++ founds i ++ saved i)
+    (λ i. soup i ++ counts ++ line i ++ reaper ++ stored i ++ saved i)
     ∙ sym (grouped-6 (four (length w.soup) ++ w.soup) counts (line_text (line_of w)) reaper (founds_text (map found_of w.genotypes))
     (savings_text (map stored_of w.saved)))
 
@@ -222,11 +222,11 @@ line-fits w s t (id ∷ ids) h = (
     one : (P : Creature → Type 0) → All P w.living → P (one_of w.living id)
     one P all = each-one P w.living id h.0 (each_from_all P w.living all)
 
-founds-fit : (most k : ℕ) (gs : List Genotype) → most < COUNT_END → k + length gs < COUNT_END → ParentsBelow k gs
+stored-fit : (most k : ℕ) (gs : List Genotype) → most < COUNT_END → k + length gs < COUNT_END → ParentsBelow k gs
     → Each (λ g. IsCode g.code) gs → Each (λ g. g.total ≤ most) gs → Each (λ g. AreEfforts g.first_effort g.second_effort) gs
     → Each HasLongNumbers gs → Each FoundFits (map found_of gs)
-founds-fit most k [] low few parents written totals efforts long = tt
-founds-fit most k (g ∷ gs) low few parents written totals efforts long =
+stored-fit most k [] low few parents written totals efforts long = tt
+stored-fit most k (g ∷ gs) low few parents written totals efforts long =
     let code = written.0 in
     let total = totals.0 in (
       (
@@ -242,7 +242,7 @@ founds-fit most k (g ∷ gs) low few parents written totals efforts long =
           ),
         ),
       ),
-      founds-fit most (k + 1) gs low (omega (arith, few)) parents.1 written.1 totals.1 efforts.1 long.1,
+      stored-fit most (k + 1) gs low (omega (arith, few)) parents.1 written.1 totals.1 efforts.1 long.1,
     )
   where
     parent : (o : Option ℕ) → IfSome o (λ p. p < k) → IfSome o (λ p. p + 1 < 2 ^ 64)
@@ -285,8 +285,8 @@ parts-fit w s t =
     let low : w.next_birth < COUNT_END = omega (arith, past, next) in
     let few : length w.genotypes < COUNT_END = omega (arith, count, low) in
     let line : All CreatureFits (line_of w) = all_from_each CreatureFits (line_of w) (line-fits w s t w.slicer slicer) in
-    let founds : All FoundFits (map found_of w.genotypes) = all_from_each FoundFits (map found_of w.genotypes)
-    (founds-fit (2 ^ 40 + 10000 * w.quanta) 0 w.genotypes (limit-small w.quanta past) (omega (arith, few)) s.parents
+    let stored : All FoundFits (map found_of w.genotypes) = all_from_each FoundFits (map found_of w.genotypes)
+    (stored-fit (2 ^ 40 + 10000 * w.quanta) 0 w.genotypes (limit-small w.quanta past) (omega (arith, few)) s.parents
     (each_from_all (λ g. IsCode g.code) w.genotypes s.written) (each_from_all (λ g. g.total ≤ 2 ^ 40 + 10000 * w.quanta) w.genotypes s.totals)
     (each_from_all (λ g. AreEfforts g.first_effort g.second_effort) w.genotypes s.efforts) (each_from_all HasLongNumbers w.genotypes t.genotypes)) in
     let saved : All SavingFits (map stored_of w.saved) = all_from_each SavingFits (map stored_of w.saved)
@@ -305,7 +305,7 @@ parts-fit w s t =
                   (each_from_all (λ c. (1 ≤ c.id) × (c.id < w.next_birth)) w.living s.numbers)),
             ),
             (
-              (omega (arith, length-map w.genotypes found_of, few), founds),
+              (omega (arith, length-map w.genotypes found_of, few), stored),
               (omega (arith, length-map w.saved stored_of, t.saved), saved),
             ),
           )),

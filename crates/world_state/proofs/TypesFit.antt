@@ -9,7 +9,7 @@ use Rattle.byte_fields.specs.Writing.{IsLongEffort}
 use Rattle.tierra_model.specs.declared.creatures.Creature.{Creature}
 use Rattle.tierra_model.specs.declared.parameters.Settings.{Settings}
 use Rattle.tierra_model.specs.World.{Saving as ModelSaving}
-use Rattle.world_state.specs.declared.fields.Found.{Found}
+use Rattle.world_state.specs.declared.fields.StoredGenotype.{StoredGenotype}
 use Rattle.world_state.specs.declared.saving.Saving.{Saving}
 use Rattle.world_state.specs.Reading.{StateParts, genotype_of, state_at}
 use Rattle.world_state.specs.Restoring.{FitsTypes, HasLongNumbers, HasWords}
@@ -30,7 +30,7 @@ creature-words c h =
       flag = words.1.1.1.1;
     }
 
-found-long : (f : Found) → FoundFits f → HasLongNumbers (genotype_of f)
+found-long : (f : StoredGenotype) → FoundFits f → HasLongNumbers (genotype_of f)
 found-long f h = (h.1.1.0, h.1.1.1.1.0.1, h.1.1.1.1.1.1)
 
 abbrev SavingLong : Saving → Type 0
@@ -45,15 +45,15 @@ pub types-fit : (chosen : Settings) (bytes : List ℕ) (parts : StateParts) (res
 types-fit chosen bytes parts rest living slicer ok read moved =
     let fits = (reads_state.takes bytes (parts, rest) ok read).1.1.1 in
     let line = parts.1.1.0 in
-    let founds = parts.1.1.1.1.0 in
+    let stored = parts.1.1.1.1.0 in
     let saved = parts.1.1.1.1.1 in
     let creatures = All-weaker CreatureFits HasWords creature-words line fits.0.1 in
-    let genotypes = All-weaker FoundFits (λ f. HasLongNumbers (genotype_of f)) found-long founds fits.1.1.0.1 in
+    let genotypes = All-weaker FoundFits (λ f. HasLongNumbers (genotype_of f)) found-long stored fits.1.1.0.1 in
     let savings = All-weaker SavingFits SavingLong saving-long saved fits.1.1.1.1 in
     record {
       creatures = All-permutation HasWords line living moved creatures;
       living = subst (λ n. n < 2 ^ 32) (sym (length_permutation line living moved)) fits.0.0;
-      genotypes = All-map HasLongNumbers genotype_of founds genotypes;
+      genotypes = All-map HasLongNumbers genotype_of stored genotypes;
       savings = All-map (λ (s : ModelSaving). IsLongEffort s.first_effort × IsLongEffort s.second_effort) saving_of saved savings;
       saved = subst (λ n. n < 2 ^ 64) (sym (length-map saved saving_of)) fits.1.1.1.0;
     }

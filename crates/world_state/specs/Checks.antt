@@ -10,7 +10,7 @@ use Rattle.tierra_model.specs.Blocks.{is_in}
 use Rattle.tierra_model.specs.Counting.{one_if, sum_of}
 use Rattle.tierra_model.specs.Individuals.{with_effort_of}
 use Rattle.tierra_model.specs.World.{Genotype}
-use Rattle.world_state.specs.declared.fields.Found.{Found}
+use Rattle.world_state.specs.declared.fields.StoredGenotype.{StoredGenotype}
 use Rattle.world_state.specs.declared.saving.Saving.{Saving}
 
 abbrev pub is_code_number : ℕ → Bool
@@ -44,7 +44,7 @@ is_effort (Some e) = nat_le 1 e.ran
 abbrev pub is_code : List ℕ → Bool
 is_code code = nat_le 1 (length code) && nat_le (length code) MOST_SIZE && list_all is_code_number code
 
-abbrev pub is_genotype : ℕ → Found → Bool
+abbrev pub is_genotype : ℕ → StoredGenotype → Bool
 is_genotype limit f = is_code f.code && nat_le f.total limit && is_effort f.first_effort && is_effort f.second_effort
 
 abbrev pub is_saving : ℕ → Saving → Bool
@@ -65,7 +65,7 @@ abbrev pub is_parent : ℕ → Option ℕ → Bool
 is_parent k None = true
 is_parent k (Some p) = nat_lt p k
 
-abbrev pub parent_step : ℕ → Found → Option ℕ
+abbrev pub parent_step : ℕ → StoredGenotype → Option ℕ
 parent_step k f = if is_parent k f.parent then Some (k + 1) else None
 
 -- a saving is not of an earlier quantum than the one before it
@@ -73,29 +73,29 @@ abbrev pub rising_step : ℕ → Saving → Option ℕ
 rising_step q s = if nat_le q s.quantum then Some s.quantum else None
 
 -- stands in for an element past the end of a list
-abbrev pub no_found : Found
+abbrev pub no_found : StoredGenotype
 no_found =
     record { code = []; parent = None; first_quantum = 0; total = 0; first_effort = None; second_effort = None }
 
 -- whether genotype k ever had save_at creatures or more
-abbrev pub reaches : ℕ → List Found → ℕ → Bool
-reaches total founds k = nat_le total (slice_index_or founds k no_found).total
+abbrev pub reaches : ℕ → List StoredGenotype → ℕ → Bool
+reaches total stored k = nat_le total (slice_index_or stored k no_found).total
 
 abbrev pub no_saving : Saving
 no_saving = record { genotype = 0; quantum = 0; first_effort = None; second_effort = None }
 
 -- what a saving adds to the size of its quantum
-abbrev pub saving_size : List Found → Saving → ℕ
-saving_size founds s = length (slice_index_or founds s.genotype no_found).code + 100
+abbrev pub saving_size : List StoredGenotype → Saving → ℕ
+saving_size stored s = length (slice_index_or stored s.genotype no_found).code + 100
 
 -- the size of the saving's quantum up to and with it; run is the quantum of the saving before, and its size so far
-abbrev pub counted : List Found → ℕ × ℕ → Saving → ℕ
-counted founds run s = (if s.quantum == run.0 then run.1 else 0) + saving_size founds s
+abbrev pub counted : List StoredGenotype → ℕ × ℕ → Saving → ℕ
+counted stored run s = (if s.quantum == run.0 then run.1 else 0) + saving_size stored s
 
 -- the savings of a quantum, which are consecutive, stay below 2 ^ 30 in total
-abbrev pub size_step : List Found → ℕ × ℕ → Saving → Option (ℕ × ℕ)
-size_step founds run s =
-    if nat_lt (counted founds run s) (2 ^ 30) then Some (s.quantum, counted founds run s) else None
+abbrev pub size_step : List StoredGenotype → ℕ × ℕ → Saving → Option (ℕ × ℕ)
+size_step stored run s =
+    if nat_lt (counted stored run s) (2 ^ 30) then Some (s.quantum, counted stored run s) else None
 
 -- ---- blocks
 
@@ -128,8 +128,8 @@ are_living n count next limit living =
     passes (number_step next) 1 living && list_all (is_placed n) living && list_all (has_places n) living
     && list_all (λ c. nat_lt c.genotype count) living && list_all (has_counts limit) living
 
-abbrev pub are_found : ℕ → List Found → Bool
-are_found limit founds = list_all (is_genotype limit) founds && passes parent_step 0 founds
+abbrev pub are_found : ℕ → List StoredGenotype → Bool
+are_found limit stored = list_all (is_genotype limit) stored && passes parent_step 0 stored
 
 abbrev pub are_saved : ℕ → List Saving → Bool
 are_saved quanta saved = list_all (is_saving quanta) saved && passes rising_step 0 saved

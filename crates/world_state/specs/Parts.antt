@@ -27,6 +27,6 @@ state_parts p = (
   p.cells.items,
   (
     ((p.quanta, p.births), (p.deaths, p.next_birth)),
-    (p.line.items, (p.reaper.items, (p.founds.items, p.saved.items))),
+    (p.line.items, (p.reaper.items, (p.stored.items, p.saved.items))),
   ),
 )

@@ -7,7 +7,7 @@ use Rattle.tierra_model.specs.declared.creatures.Block.{Block}
 use Rattle.tierra_model.specs.declared.creatures.Creature.{Creature}
 use Rattle.tierra_model.specs.declared.creatures.Effort.{Effort}
 use Rattle.tierra_model.specs.World.{Genotype}
-use Rattle.world_state.specs.declared.fields.Found.{Found}
+use Rattle.world_state.specs.declared.fields.StoredGenotype.{StoredGenotype}
 use Rattle.world_state.specs.declared.saving.Saving.{Saving}
 
 -- ---- creatures
@@ -104,7 +104,7 @@ details_at bytes = both parent_at (λ _. both eight_at (λ _. both eight_at (λ 
 abbrev pub FoundParts : Type 0
 FoundParts = List ℕ × Details
 
-abbrev pub found_from : FoundParts → Found
+abbrev pub found_from : FoundParts → StoredGenotype
 found_from p =
     record {
       code = p.0;
@@ -115,7 +115,7 @@ found_from p =
       second_effort = p.1.1.1.1.1;
     }
 
-unfoldable pub found_at : List ℕ → Option (Found × List ℕ)
+unfoldable pub found_at : List ℕ → Option (StoredGenotype × List ℕ)
 found_at bytes = made found_from (both sized_at (λ _. details_at)) bytes
 
 abbrev pub SavingParts : Type 0
@@ -128,7 +128,7 @@ unfoldable pub saving_at : List ℕ → Option (Saving × List ℕ)
 saving_at bytes = made saving_from (both eights_at (λ _. efforts_at)) bytes
 
 -- the genotype that was read
-abbrev pub genotype_of : Found → Genotype
+abbrev pub genotype_of : StoredGenotype → Genotype
 genotype_of f =
     record {
       code = f.code;
@@ -139,14 +139,14 @@ genotype_of f =
       second_effort = f.second_effort;
     }
 
-abbrev pub genotypes_of : List Found → List Genotype
-genotypes_of founds = map genotype_of founds
+abbrev pub genotypes_of : List StoredGenotype → List Genotype
+genotypes_of stored = map genotype_of stored
 
 -- ---- the whole
 
 -- the cells, four counts, the living in the order of the slicer queue, the reaper queue, the genotypes and the savings
 abbrev pub StateParts : Type 0
-StateParts = List ℕ × (((ℕ × ℕ) × (ℕ × ℕ)) × (List Creature × (List ℕ × (List Found × List Saving))))
+StateParts = List ℕ × (((ℕ × ℕ) × (ℕ × ℕ)) × (List Creature × (List ℕ × (List StoredGenotype × List Saving))))
 
 unfoldable pub state_at : List ℕ → Option (StateParts × List ℕ)
 state_at bytes =

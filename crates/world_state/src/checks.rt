@@ -10,7 +10,7 @@ ghost use Rattle.tierra_model.specs.Sound.{IsPlaced, Ordered, owners};
 ghost use Rattle.world_state.specs.Soundness.{AreSame};
 ghost use Rattle.world_state.specs.Checks.{apart_step, blocks_in, blocks_of, counted, has_counts, has_places, is_block_in, is_code, is_code_number, is_daughter_in, is_effort, is_genotype, is_parent, is_placed, is_saving, number_step, parent_step, passes, reaches, rising_step, saving_size, size_step};
 
-use crate::fields::Found;
+use crate::fields::StoredGenotype;
 use crate::saving::Saving;
 use std::alloc::Global;
 use tierra_model::{Block, Code, Creature, Effort, MOST_SIZE, OutOfMemory};
@@ -126,7 +126,7 @@ fn is_effort(effort: Option<Effort>) -> bool
     }
 }
 
-fn is_genotype(limit: u64, found: &Found) -> bool
+fn is_genotype(limit: u64, found: &StoredGenotype) -> bool
     ensures { result ≡ is_genotype limit found.now }
 {
     is_code(&found.code)
@@ -136,10 +136,10 @@ fn is_genotype(limit: u64, found: &Found) -> bool
 }
 
 /// Whether each genotype has a code and counts that a world with this limit allows.
-pub fn are_genotypes(limit: u64, founds: &[Found]) -> bool
-    ensures { result ≡ list_all (is_genotype limit) founds.now }
+pub fn are_genotypes(limit: u64, stored: &[StoredGenotype]) -> bool
+    ensures { result ≡ list_all (is_genotype limit) stored.now }
 {
-    founds.iter().all(|found| is_genotype(limit, found))
+    stored.iter().all(|found| is_genotype(limit, found))
 }
 
 fn is_parent(number: u64, parent: Option<u64>) -> bool
@@ -152,11 +152,11 @@ fn is_parent(number: u64, parent: Option<u64>) -> bool
 }
 
 /// Whether each parent is before its genotype.
-pub fn have_parents(founds: &[Found]) -> bool
-    ensures { result ≡ passes parent_step 0 founds.now }
+pub fn have_parents(stored: &[StoredGenotype]) -> bool
+    ensures { result ≡ passes parent_step 0 stored.now }
 {
     let mut number = 0;
-    for found in founds {
+    for found in stored {
         if !is_parent(number, found.parent) {
             return false;
         }
@@ -193,15 +193,15 @@ pub fn are_rising(saved: &[Saving]) -> bool
 }
 
 /// Whether the savings of each quantum stay below 2^30 in total, each counted as the length of its code plus 100.
-pub fn have_sizes(founds: &[Found], saved: &[Saving]) -> bool
-    requires few { All (λ f. length f.code ≤ MOST_SIZE) founds.now }
-    requires known { All (λ s. s.genotype < length founds.now) saved.now }
-    ensures { result ≡ passes (size_step founds.now) (0, 0) saved.now }
+pub fn have_sizes(stored: &[StoredGenotype], saved: &[Saving]) -> bool
+    requires few { All (λ f. length f.code ≤ MOST_SIZE) stored.now }
+    requires known { All (λ s. s.genotype < length stored.now) saved.now }
+    ensures { result ≡ passes (size_step stored.now) (0, 0) saved.now }
 {
     let mut quantum = 0;
     let mut sum = 0;
     for saving in saved {
-        sum = counted(founds, quantum, sum, *saving);
+        sum = counted(stored, quantum, sum, *saving);
         if sum >= MOST {
             return false;
         }
@@ -211,23 +211,23 @@ pub fn have_sizes(founds: &[Found], saved: &[Saving]) -> bool
 }
 
 // The size of the saving's quantum up to and with it, where the saving before is of `quantum`, with `sum` so far.
-fn counted(founds: &[Found], quantum: u64, sum: u64, saving: Saving) -> u64
-    requires few { All (λ f. length f.code ≤ MOST_SIZE) founds.now }
-    requires known { saving.genotype < length founds.now }
+fn counted(stored: &[StoredGenotype], quantum: u64, sum: u64, saving: Saving) -> u64
+    requires few { All (λ f. length f.code ≤ MOST_SIZE) stored.now }
+    requires known { saving.genotype < length stored.now }
     requires small { sum < 2 ^ 30 }
-    ensures { result ≡ counted founds.now (quantum, sum) saving }
+    ensures { result ≡ counted stored.now (quantum, sum) saving }
 {
     let before = if saving.quantum == quantum { sum } else { 0 };
-    before + saving_size(founds, saving)
+    before + saving_size(stored, saving)
 }
 
-fn saving_size(founds: &[Found], saving: Saving) -> u64
-    requires few { All (λ f. length f.code ≤ MOST_SIZE) founds.now }
-    requires known { saving.genotype < length founds.now }
-    ensures size { result ≡ saving_size founds.now saving }
+fn saving_size(stored: &[StoredGenotype], saving: Saving) -> u64
+    requires few { All (λ f. length f.code ≤ MOST_SIZE) stored.now }
+    requires known { saving.genotype < length stored.now }
+    ensures size { result ≡ saving_size stored.now saving }
     ensures small { result ≤ 20100 }
 {
-    let found = &founds[saving.genotype as usize];
+    let found = &stored[saving.genotype as usize];
     found.code.items.len() as u64 + 100
 }
 
@@ -260,16 +260,16 @@ fn are_equal(left: &[u64], right: &[u64]) -> bool
 /// The numbers of the genotypes that ever had this many creatures or more, in order.
 pub fn numbers_reaching(
     alloc: Global,
-    founds: &[Found],
+    stored: &[StoredGenotype],
     total: u64,
 ) -> Result<Vec<u64>, OutOfMemory>
     requires { 1 ≤ total }
     ensures order { IfOk result (λ numbers. Ordered 0 numbers.items) }
-    ensures each { IfOk result (λ numbers. (k : ℕ) → times_in numbers.items k ≡ one_if (reaches total founds.now k)) }
+    ensures each { IfOk result (λ numbers. (k : ℕ) → times_in numbers.items k ≡ one_if (reaches total stored.now k)) }
 {
     let mut numbers = Vec::new(alloc);
-    for number in 0..founds.len() as u64 {
-        if founds[number as usize].total >= total {
+    for number in 0..stored.len() as u64 {
+        if stored[number as usize].total >= total {
             numbers.push(number)?;
         }
     }

@@ -11,7 +11,7 @@ ghost use Rattle.world_state.specs.Reading.{state_at};
 ghost use Rattle.world_state.specs.Restoring.{AreBytesOf, AreOfNoWorld, FitsTypes};
 ghost use Rattle.byte_fields.specs.declared.stop.Stop.TheVariants.{Malformed};
 
-use crate::fields::{Found, WorldFormat};
+use crate::fields::{StoredGenotype, WorldFormat};
 use crate::saving::Saving;
 use byte_fields::{Stop, counted_by_eight, counted_by_four, eights_of, list_of, sized_of};
 use std::alloc::Global;
@@ -26,7 +26,7 @@ pub struct Draft {
     pub living: Vec<Creature>,
     pub slicer: Vec<u64>,
     pub reaper: Vec<u64>,
-    pub founds: Vec<Found>,
+    pub stored: Vec<StoredGenotype>,
     pub saved: Vec<Saving>,
     pub quanta: u64,
     pub births: u64,
@@ -52,7 +52,7 @@ impl Model for Draft {
       living = d.living.items;
       slicer = d.slicer.items;
       reaper = d.reaper.items;
-      genotypes = genotypes_of d.founds.items;
+      genotypes = genotypes_of d.stored.items;
       saved = savings_of d.saved.items;
       births = d.births;
       deaths = d.deaths;
@@ -81,7 +81,7 @@ pub fn draft_of(alloc: Global, settings: &Settings, bytes: &[u8]) -> Result<Draf
         living,
         slicer,
         reaper: parts.reaper,
-        founds: parts.founds,
+        stored: parts.stored,
         saved: parts.saved,
         quanta: parts.quanta,
         births: parts.births,
@@ -100,7 +100,7 @@ struct Parts {
     next_birth: u64,
     line: Vec<Creature>,
     reaper: Vec<u64>,
-    founds: Vec<Found>,
+    stored: Vec<StoredGenotype>,
     saved: Vec<Saving>,
 }
 
@@ -113,7 +113,7 @@ fn parts_of(alloc: Global, bytes: &[u8]) -> Result<(Parts, &[u8]), Stop>
     let (deaths, next_birth, rest) = eights_of(rest)?;
     let (line, rest) = counted_by_four::<WorldFormat, Creature>(alloc, WorldFormat, rest)?;
     let (reaper, rest) = list_of(alloc, WorldFormat, line.len() as u64, rest)?;
-    let (founds, rest) = counted_by_eight(alloc, WorldFormat, rest)?;
+    let (stored, rest) = counted_by_eight(alloc, WorldFormat, rest)?;
     let (saved, rest) = counted_by_eight(alloc, WorldFormat, rest)?;
     let parts = Parts {
         cells: cells.to_vec(alloc)?,
@@ -123,7 +123,7 @@ fn parts_of(alloc: Global, bytes: &[u8]) -> Result<(Parts, &[u8]), Stop>
         next_birth,
         line,
         reaper,
-        founds,
+        stored,
         saved,
     };
     Ok((parts, rest))

@@ -8,20 +8,23 @@ ghost use Rattle.world_state.specs.Reading.{genotype_of, genotypes_of};
 ghost use Rattle.world_state.specs.Soundness.{AreCodedOnce};
 
 use crate::copying::copied;
-use crate::fields::Found;
+use crate::fields::StoredGenotype;
 use genotyper::Genotypes;
 use std::alloc::Global;
 use tierra_model::{Code, Effort, OutOfMemory};
 
 /// The genotypes that were read, no two of which have the same code.
-pub fn genotypes_from(alloc: Global, founds: &[Found]) -> Result<Option<Genotypes>, OutOfMemory>
-    requires { All (λ f. IsCode f.code) founds.now }
-    ensures some { IfOk result (λ o. IfSome o (λ g. g.genotypes ≡ genotypes_of founds.now)) }
-    ensures once { IfOk result (λ o. IfSome o (λ g. AreCodedOnce (genotypes_of founds.now))) }
-    ensures none { IfOk result (λ o. IfNone o (AreCodedOnce (genotypes_of founds.now) → ⊥)) }
+pub fn genotypes_from(
+    alloc: Global,
+    stored: &[StoredGenotype],
+) -> Result<Option<Genotypes>, OutOfMemory>
+    requires { All (λ f. IsCode f.code) stored.now }
+    ensures some { IfOk result (λ o. IfSome o (λ g. g.genotypes ≡ genotypes_of stored.now)) }
+    ensures once { IfOk result (λ o. IfSome o (λ g. AreCodedOnce (genotypes_of stored.now))) }
+    ensures none { IfOk result (λ o. IfNone o (AreCodedOnce (genotypes_of stored.now) → ⊥)) }
 {
     let mut genotypes = Genotypes::new(alloc);
-    for found in founds {
+    for found in stored {
         let code = copied(alloc, &found.code)?;
         if let Some(_) = genotypes.number_of(&code) {
             return Ok(None);
@@ -33,7 +36,7 @@ pub fn genotypes_from(alloc: Global, founds: &[Found]) -> Result<Option<Genotype
 }
 
 // Appends a genotype with the counts and efforts that were read.
-fn enter(genotypes: &mut Genotypes, code: Code, found: &Found)
+fn enter(genotypes: &mut Genotypes, code: Code, found: &StoredGenotype)
     requires room { 0 < genotypes.old.spare }
     requires code { code ≡ found.now.code }
     requires written { IsCode code }

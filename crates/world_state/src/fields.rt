@@ -18,7 +18,7 @@ pub struct WorldFormat;
 
 /// A genotype as it was read from the bytes.
 #[derive(Debug, Drop)]
-pub struct Found {
+pub struct StoredGenotype {
     pub code: Code,
     pub parent: Option<u64>,
     pub first_quantum: u64,
@@ -245,18 +245,18 @@ impl Field<WorldFormat> for Saving {
     }
 }
 
-impl Field<WorldFormat> for Found {
+impl Field<WorldFormat> for StoredGenotype {
     ghost at = { λ _. found_at };
 
     #[tactic(auto, unfolding(crate::specs::Reading::found_at, crate::specs::Reading::details_at))]
-    fn read(alloc: Global, _: WorldFormat, bytes: &[u8]) -> Result<(Found, &[u8]), Stop> {
+    fn read(alloc: Global, _: WorldFormat, bytes: &[u8]) -> Result<(StoredGenotype, &[u8]), Stop> {
         let (cells, rest) = sized_of(bytes)?;
         let (parent, rest) = parent_of(rest)?;
         let (first_quantum, rest) = eight_of(rest)?;
         let (total, rest) = eight_of(rest)?;
         let (first_effort, second_effort, rest) = efforts_of(rest)?;
         let items = cells.to_vec(alloc)?;
-        let found = Found {
+        let found = StoredGenotype {
             code: Code { items },
             parent,
             first_quantum,

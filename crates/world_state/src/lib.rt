@@ -15,6 +15,6 @@ pub use checks::blocks_in;
 pub use copying::copied;
 pub use draft::{Draft, draft_of};
 pub use entering::genotypes_from;
-pub use fields::Found;
+pub use fields::StoredGenotype;
 pub use saving::Saving;
 pub use writing::{push_creature, push_each_genotype, push_each_saving};

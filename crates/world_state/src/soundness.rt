@@ -16,7 +16,7 @@ use crate::checks::{
 };
 use crate::draft::{Draft, numbers_of};
 use crate::entering::genotypes_from;
-use crate::fields::Found;
+use crate::fields::StoredGenotype;
 use crate::saving::Saving;
 use std::alloc::Global;
 use tierra_model::{Creature, MOST_QUANTA, MOST_SLICE, OutOfMemory};
@@ -47,7 +47,7 @@ impl Draft {
             && self.next_birth <= limit_of(self.quanta)
             && !self.living.is_empty()
             && self.births < self.next_birth
-            && (self.founds.len() as u64) < self.next_birth
+            && (self.stored.len() as u64) < self.next_birth
             && self.deaths < self.next_birth
             && self.living.len() as u64 + self.deaths + 1 == self.next_birth
     }
@@ -58,7 +58,7 @@ impl Draft {
         ensures { IsTrue result ↔ HasParts self.now }
     {
         let size = self.settings.soup_size;
-        let count = self.founds.len() as u64;
+        let count = self.stored.len() as u64;
         let limit = limit_of(self.quanta);
         if !are_cells(size, &self.cells) {
             return false;
@@ -66,7 +66,7 @@ impl Draft {
         if !are_living(size, count, self.next_birth, limit, &self.living) {
             return false;
         }
-        if !are_found(limit, &self.founds) {
+        if !are_found(limit, &self.stored) {
             return false;
         }
         are_saved(self.quanta, &self.saved)
@@ -85,11 +85,11 @@ impl Draft {
         if !apart {
             return Ok(false);
         }
-        let once = are_coded_once(alloc, &self.founds)?;
+        let once = are_coded_once(alloc, &self.stored)?;
         if !once {
             return Ok(false);
         }
-        let due = are_due(alloc, self.settings.save_at, &self.founds, &self.saved)?;
+        let due = are_due(alloc, self.settings.save_at, &self.stored, &self.saved)?;
         Ok(due)
     }
 
@@ -99,7 +99,7 @@ impl Draft {
         requires matched { IsMatched self.now }
         ensures { IsTrue result ↔ HasSizes self.now }
     {
-        have_sizes(&self.founds, &self.saved)
+        have_sizes(&self.stored, &self.saved)
     }
 }
 
@@ -130,10 +130,10 @@ fn are_living(size: u32, count: u64, next_birth: u64, limit: u64, living: &[Crea
         && have_counts(limit, living)
 }
 
-fn are_found(limit: u64, founds: &[Found]) -> bool
-    ensures { result ≡ are_found limit founds.now }
+fn are_found(limit: u64, stored: &[StoredGenotype]) -> bool
+    ensures { result ≡ are_found limit stored.now }
 {
-    are_genotypes(limit, founds) && have_parents(founds)
+    are_genotypes(limit, stored) && have_parents(stored)
 }
 
 fn are_saved(quanta: u64, saved: &[Saving]) -> bool
@@ -152,11 +152,11 @@ fn is_queue_of(alloc: Global, numbers: &[u64], living: &[Creature]) -> Result<bo
 }
 
 // Whether no two genotypes have the same code.
-fn are_coded_once(alloc: Global, founds: &[Found]) -> Result<bool, OutOfMemory>
-    requires { All (λ f. IsCode f.code) founds.now }
-    ensures { IfOk result (λ once. IsTrue once ↔ AreCodedOnce (genotypes_of founds.now)) }
+fn are_coded_once(alloc: Global, stored: &[StoredGenotype]) -> Result<bool, OutOfMemory>
+    requires { All (λ f. IsCode f.code) stored.now }
+    ensures { IfOk result (λ once. IsTrue once ↔ AreCodedOnce (genotypes_of stored.now)) }
 {
-    match genotypes_from(alloc, founds)? {
+    match genotypes_from(alloc, stored)? {
         Some(_) => Ok(true),
         None => Ok(false),
     }
@@ -166,14 +166,14 @@ fn are_coded_once(alloc: Global, founds: &[Found]) -> Result<bool, OutOfMemory>
 fn are_due(
     alloc: Global,
     save_at: u32,
-    founds: &[Found],
+    stored: &[StoredGenotype],
     saved: &[Saving],
 ) -> Result<bool, OutOfMemory>
     requires { 1 ≤ save_at }
-    ensures { IfOk result (λ due. IsTrue due ↔ AreDue save_at (genotypes_of founds.now) (savings_of saved.now)) }
+    ensures { IfOk result (λ due. IsTrue due ↔ AreDue save_at (genotypes_of stored.now) (savings_of saved.now)) }
 {
     let least = u64::from(save_at);
-    let reaching = numbers_reaching(alloc, founds, least)?;
+    let reaching = numbers_reaching(alloc, stored, least)?;
     let numbers = numbers_saved(alloc, saved)?;
     let due = are_same(alloc, &numbers, &reaching)?;
     Ok(due)

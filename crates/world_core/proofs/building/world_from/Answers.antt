@@ -8,7 +8,7 @@ use Rattle.tierra_model.specs.Ranges.{IsCode}
 use Rattle.tierra_model.specs.Room.{is_owned}
 use Rattle.tierra_model.specs.Sound.{IsPlaced, IsSound, Ordered, owners, times_coded}
 use Rattle.tierra_model.specs.World.{World}
-use Rattle.world_state.specs.declared.fields.Found.{Found}
+use Rattle.world_state.specs.declared.fields.StoredGenotype.{StoredGenotype}
 use Rattle.world_state.specs.contracts.draft.Draft.{the_view}
 use Rattle.world_state.specs.Reading.{genotypes_of}
 use Rattle.world_core.specs.Running.{WorldFields, number_with}
@@ -66,12 +66,12 @@ census_from-requires c =
 pub all_genotypes-requires-clause-codes : goal.all_genotypes-requires-clause-codes
 all_genotypes-requires-clause-codes c =
     let s : IsSound (the_view c.draft.inside) = subst IsSound (sym c.draft.view_is) c.requires in
-    subst (All (λ (f : Found). IsCode f.code)) (sym c.deref-7.ensures.value) (codes-written c.draft.inside.founds.items s.written)
+    subst (All (λ (f : StoredGenotype). IsCode f.code)) (sym c.deref-7.ensures.value) (codes-written c.draft.inside.stored.items s.written)
 
 pub all_genotypes-requires-clause-once : goal.all_genotypes-requires-clause-once
 all_genotypes-requires-clause-once c code =
     let s : IsSound (the_view c.draft.inside) = subst IsSound (sym c.draft.view_is) c.requires in
-    subst (λ (fs : List Found). times_coded (genotypes_of fs) code ≤ 1) (sym c.deref-7.ensures.value) (s.coded_once code)
+    subst (λ (fs : List StoredGenotype). times_coded (genotypes_of fs) code ≤ 1) (sym c.deref-7.ensures.value) (s.coded_once code)
 
 pub of-running-requires : goal.of-running-requires
 of-running-requires c =

@@ -13,7 +13,7 @@ pub returns-in-Some-clause-none : goal.returns-in-Some-clause-none
 returns-in-Some-clause-none c =
     let x = c.found-item.result in
     let code = c.in_ok-code.code in
-    coded-twice code c.args.founds.now c.loop-found.found-index x c.loop-found-test.true
+    coded-twice code c.args.stored.now c.loop-found.found-index x c.loop-found-test.true
     (ap (λ f. f.code) (sym c.found-item.is) ∙ sym c.in_ok-code.ensures)
     (λ e. (let none : c.number_of.result ≡ None = c.number_of.ensures.number ∙ ap (genotype_number code) c.loop-found.invariant.0 ∙ e in
     not_both c.number_of.result _ none c.in-Some.is))
@@ -23,9 +23,9 @@ loop-found-preserved c =
     let x = c.found-item.result in
     let code = c.in_ok-code.code in
     let k = c.loop-found.found-index in
-    let gs = genotypes_of (take k c.args.founds.now) in
-    let more : genotypes_of (take (k + 1) c.args.founds.now) ≡ gs ++ genotype_of x ∷ [] =
-    one-taken c.args.founds.now k x c.loop-found-test.true ∙ ap (λ f. gs ++ genotype_of f ∷ []) (sym c.found-item.is) in
+    let gs = genotypes_of (take k c.args.stored.now) in
+    let more : genotypes_of (take (k + 1) c.args.stored.now) ≡ gs ++ genotype_of x ∷ [] =
+    one-taken c.args.stored.now k x c.loop-found-test.true ∙ ap (λ f. gs ++ genotype_of f ∷ []) (sym c.found-item.is) in
     let none : c.number_of.result ≡ None = search rules in
     let absent : times_coded gs x.code ≡ 0 =
     ap (times_coded gs) (sym c.in_ok-code.ensures) ∙ coded-none code gs

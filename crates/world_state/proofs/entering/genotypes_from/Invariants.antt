@@ -5,4 +5,4 @@ use Rattle.world_state.proofs.entering.genotypes_from.Given as goal
 
 abbrev pub invariant-loop-found : goal.invariant-loop-found
 invariant-loop-found l =
-    (l.genotypes.genotypes ≡ genotypes_of (take l.found-index l.founds)) × OnceCoded (genotypes_of (take l.found-index l.founds))
+    (l.genotypes.genotypes ≡ genotypes_of (take l.found-index l.stored)) × OnceCoded (genotypes_of (take l.found-index l.stored))

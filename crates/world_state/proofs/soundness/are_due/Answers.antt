@@ -8,7 +8,7 @@ use Rattle.world_state.proofs.soundness.are_due.Goals as goal
 
 pub returns : goal.returns
 returns c =
-    let fs = c.args.founds.now in
+    let fs = c.args.stored.now in
     let least : c.from-least.result ≡ c.args.save_at = search rules in
     let saved = c.deref.ensures.value ∙ c.in_ok-numbers.ensures in
     let row : (k : ℕ) → times_in c.deref-2.result.now k ≡ one_if (nat_le c.args.save_at (genotype_at (genotypes_of fs) k).total)

@@ -10,11 +10,11 @@ pub invariant_of-self : goal.invariant_of-self
 invariant_of-self c =
     let xs = c.self.inside.creatures.items in
     let d = c.index_mut.result.now in
-    let same = put-at 1 c.args.creature xs c.in-Some.place d c.self.invariant c.in-Some.ensures.some.1 (c.in-Some.ensures.some.0 d) in
-    subst (Ordered 1) (sym (ap ids_of same ∙ ids_of-with c.args.creature xs)) c.self.invariant
+    let same = put-at 1 c.args.creature.now xs c.in-Some.place d c.self.invariant c.in-Some.ensures.some.1 (c.in-Some.ensures.some.0 d) in
+    subst (Ordered 1) (sym (ap ids_of same ∙ ids_of-with c.args.creature.now xs)) c.self.invariant
 
 pub returns-clause-creatures : goal.returns-clause-creatures
 returns-clause-creatures c =
     let d = c.index_mut.result.now in
-    put-at 1 c.args.creature c.self.inside.creatures.items c.in-Some.place d c.self.invariant c.in-Some.ensures.some.1 (c.in-Some.ensures.some.0 d)
-    ∙ ap (λ (l : LivingFields). with_record c.args.creature l.creatures) c.self.view_is
+    put-at 1 c.args.creature.now c.self.inside.creatures.items c.in-Some.place d c.self.invariant c.in-Some.ensures.some.1 (c.in-Some.ensures.some.0 d)
+    ∙ ap (λ (l : LivingFields). with_record c.args.creature.now l.creatures) c.self.view_is

@@ -10,7 +10,7 @@ use Rattle.world_core.proofs.population.Population.put.Goals as goal
 
 pub invariant_of-self : goal.invariant_of-self
 invariant_of-self c =
-    let x = c.args.creature in
+    let x = c.args.creature.now in
     let ids = entry_ids c.self.inside.reaper.entries in
     let here : 0 < times_in (ids_of c.self.inside.living.creatures) x.id
     = subst (λ (p : PopulationFields). 0 < times_in (ids_of p.living) x.id) (sym c.self.view_is) c.requires.here in

@@ -22,13 +22,13 @@ returns-then-not-are_cells c = (
 pub returns-then-not-are_living : goal.returns-then-not-are_living
 returns-then-not-are_living c =
     let d = c.self.inside in
-    let count = c.len-count.ensures ∙ d.founds.ok.0 ∙ sym (length-map d.founds.items genotype_of) in
+    let count = c.len-count.ensures ∙ d.stored.ok.0 ∙ sym (length-map d.stored.items genotype_of) in
     let test = c.if-not-are_living.ensures
     ∙ (λ i. are_living d.settings.soup_size (count i) d.next_birth (c.limit_of-limit.ensures i) (c.deref-2.ensures.value i)) in (
       λ e. absurd cc,
       λ h.
           let parts : HasParts (the_view d) = subst HasParts (sym c.self.view_is) h in
-          test ∙ (living-decide d.settings.soup_size (length (genotypes_of d.founds.items)) d.next_birth (count_limit d.quanta) d.living.items).1 parts.living,
+          test ∙ (living-decide d.settings.soup_size (length (genotypes_of d.stored.items)) d.next_birth (count_limit d.quanta) d.living.items).1 parts.living,
     )
 
 pub returns-then-not-are_found : goal.returns-then-not-are_found
@@ -38,13 +38,13 @@ returns-then-not-are_found c =
       λ e. absurd cc,
       λ h.
           let parts : HasParts (the_view d) = subst HasParts (sym c.self.view_is) h in
-          test ∙ (found-decide (count_limit d.quanta) d.founds.items).1 parts.genotypes,
+          test ∙ (found-decide (count_limit d.quanta) d.stored.items).1 parts.genotypes,
     )
 
 pub returns : goal.returns
 returns c =
     let d = c.self.inside in
-    let count = c.len-count.ensures ∙ d.founds.ok.0 ∙ sym (length-map d.founds.items genotype_of) in
+    let count = c.len-count.ensures ∙ d.stored.ok.0 ∙ sym (length-map d.stored.items genotype_of) in
     let cells = subst (λ (xs : List ℕ). (length xs ≡ d.settings.soup_size) × All (λ v. v < 32) xs) c.deref.ensures.value (c.if-not-are_cells.ensures.0 refl) in
     let living = c.if-not-are_living.ensures
     ∙ (λ i. are_living d.settings.soup_size (count i) d.next_birth (c.limit_of-limit.ensures i) (c.deref-2.ensures.value i)) in
@@ -54,8 +54,8 @@ returns c =
       λ e. record {
         cells = cells.0;
         codes = cells.1;
-        living = (living-decide d.settings.soup_size (length (genotypes_of d.founds.items)) d.next_birth (count_limit d.quanta) d.living.items).0 (sym living);
-        genotypes = (found-decide (count_limit d.quanta) d.founds.items).0 (sym found);
+        living = (living-decide d.settings.soup_size (length (genotypes_of d.stored.items)) d.next_birth (count_limit d.quanta) d.living.items).0 (sym living);
+        genotypes = (found-decide (count_limit d.quanta) d.stored.items).0 (sym found);
         saved = (saved-decide d.quanta d.saved.items).0 (sym saved ∙ e);
       },
       λ h. saved ∙ (saved-decide d.quanta d.saved.items).1 h.saved,

@@ -6,7 +6,7 @@ use Rattle.tierra_model.specs.Living.{ids_of}
 use Rattle.tierra_model.specs.Ranges.{IsCode}
 use Rattle.tierra_model.specs.Sound.{IsPlaced, Ordered, numbers_of, owners, times_coded}
 use Rattle.tierra_model.specs.World.{World, genotype_at}
-use Rattle.world_state.specs.declared.fields.Found.{Found}
+use Rattle.world_state.specs.declared.fields.StoredGenotype.{StoredGenotype}
 use Rattle.world_state.specs.contracts.draft.Draft.{the_view}
 use Rattle.world_state.specs.Reading.{genotypes_of}
 use Rattle.world_state.specs.Savings.{savings_of}
@@ -27,7 +27,7 @@ are_apart-requires c =
 pub are_coded_once-requires : goal.are_coded_once-requires
 are_coded_once-requires c =
     let parts : HasParts (the_view c.self.inside) = subst HasParts (sym c.self.view_is) c.requires in
-    subst (All (λ (f : Found). IsCode f.code)) (sym c.deref-4.ensures.value) (codes-written c.self.inside.founds.items parts.genotypes.written)
+    subst (All (λ (f : StoredGenotype). IsCode f.code)) (sym c.deref-4.ensures.value) (codes-written c.self.inside.stored.items parts.genotypes.written)
 
 pub returns-then-not-queue : goal.returns-then-not-queue
 returns-then-not-queue c = (
@@ -56,7 +56,7 @@ returns-then-not-once c = (
       let is : IsMatched (the_view c.self.inside) = subst IsMatched (sym c.self.view_is) h in
       let no : c.in_ok-once.once ≡ false = search rules in
       sym no ∙ c.in_ok-once.ensures.1
-      (λ code. subst (λ (l : List Found). times_coded (genotypes_of l) code ≤ 1) (sym c.deref-4.ensures.value) (is.coded_once code)),
+      (λ code. subst (λ (l : List StoredGenotype). times_coded (genotypes_of l) code ≤ 1) (sym c.deref-4.ensures.value) (is.coded_once code)),
 )
 
 pub returns : goal.returns
@@ -71,7 +71,8 @@ returns c =
         reaper = λ id. ap (λ (l : List ℕ). times_in l id) (sym c.deref.ensures.value) ∙ c.in_ok-queue.ensures.0 queue id
             ∙ ap (λ (l : List Creature). times_in (ids_of l) id) c.deref-2.ensures.value;
         apart = λ p. subst (λ (l : List Creature). owners l p ≤ 1) c.deref-3.ensures.value (c.in_ok-apart.ensures.0 apart p);
-        coded_once = λ code. subst (λ (l : List Found). times_coded (genotypes_of l) code ≤ 1) c.deref-4.ensures.value (c.in_ok-once.ensures.0 once code);
+        coded_once =
+            λ code. subst (λ (l : List StoredGenotype). times_coded (genotypes_of l) code ≤ 1) c.deref-4.ensures.value (c.in_ok-once.ensures.0 once code);
         saved = λ k. (λ i. times_in (numbers_of (savings_of (sym c.deref-6.ensures.value i))) k) ∙ c.in_ok-due.ensures.0 e k
             ∙ (λ i. one_if (nat_le at (genotype_at (genotypes_of (c.deref-5.ensures.value i)) k).total));
       },

@@ -1,7 +1,7 @@
 use Rattle.std.proofs.Common.{◌+◌, arith}
 use Rattle.serial_slicer.proofs.Steps.{can_step, erred_is, erred_runs, none_is, step_frame, step_is, step_left, step_ready}
 use Rattle.serial_slicer.proofs.Turns.{few}
-use Rattle.serial_slicer.proofs.turn.TurnGround.step.Goals as goal
+use Rattle.serial_slicer.proofs.turn.CreatureTurnGround.step.Goals as goal
 
 pub step-act-requires-clause-ready : goal.step-act-requires-clause-ready
 step-act-requires-clause-ready g c =

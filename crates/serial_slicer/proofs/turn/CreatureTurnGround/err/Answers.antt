@@ -1,7 +1,7 @@
 use Rattle.std.proofs.Common.{arith}
 use Rattle.tierra_model.specs.declared.events.Event.TheVariants as event
 use Rattle.serial_slicer.proofs.Turns.{few, frame_after, ready_after, runs, state_after}
-use Rattle.serial_slicer.proofs.turn.TurnGround.err.Goals as goal
+use Rattle.serial_slicer.proofs.turn.CreatureTurnGround.err.Goals as goal
 
 pub err-requires : goal.err-requires
 err-requires c = let t = c.args.self.now in omega (arith, (few t.creature t.sole.now 1 c.requires).0)

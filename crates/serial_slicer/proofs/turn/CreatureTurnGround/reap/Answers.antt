@@ -3,7 +3,7 @@ use Rattle.std.proofs.lemmas.Result.{on_ok_weaker}
 use Rattle.tierra_model.specs.declared.events.Event.TheVariants as event
 use Rattle.serial_slicer.specs.ReadyLaws.{fewer}
 use Rattle.serial_slicer.proofs.Turns.{can_reap, frame_after, now, ready_after, runs, state_after}
-use Rattle.serial_slicer.proofs.turn.TurnGround.reap.Goals as goal
+use Rattle.serial_slicer.proofs.turn.CreatureTurnGround.reap.Goals as goal
 
 pub reap-requires-clause-within : goal.reap-requires-clause-within
 reap-requires-clause-within c = let t = c.args.self.now in runs t.creature t.sole.now 0 c.requires.ready

@@ -2,7 +2,7 @@ use Rattle.std.proofs.Common.{arith}
 use Rattle.std.proofs.lemmas.Result.{on_ok_weaker}
 use Rattle.tierra_model.specs.declared.events.Event.TheVariants as event
 use Rattle.serial_slicer.proofs.Turns.{can_take, frame_after, ready_after, runs, state_after}
-use Rattle.serial_slicer.proofs.turn.TurnGround.take.Goals as goal
+use Rattle.serial_slicer.proofs.turn.CreatureTurnGround.take.Goals as goal
 
 pub take-requires : goal.take-requires
 take-requires c =

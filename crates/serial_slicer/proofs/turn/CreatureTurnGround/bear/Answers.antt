@@ -5,7 +5,7 @@ use Rattle.tierra_model.specs.declared.events.Event.TheVariants as event
 use Rattle.tierra_model.specs.Events.{apply_event}
 use Rattle.tierra_model.specs.World.{put}
 use Rattle.serial_slicer.proofs.Turns.{can_bear, few, frame_after, now, ready_after, runs, state_after}
-use Rattle.serial_slicer.proofs.turn.TurnGround.bear.Goals as goal
+use Rattle.serial_slicer.proofs.turn.CreatureTurnGround.bear.Goals as goal
 
 pub bear-requires : goal.bear-requires
 bear-requires c = let t = c.args.self.now in omega (arith, (few t.creature t.sole.now 2 c.requires.ready).1)

@@ -1,7 +1,7 @@
 use Rattle.std.proofs.Common.{refl, sym, ◌∙◌, arith}
 use Rattle.tierra_model.specs.declared.events.Event.TheVariants as event
 use Rattle.serial_slicer.proofs.Turns.{frame_after, now, ready_after, runs, state_after}
-use Rattle.serial_slicer.proofs.turn.TurnGround.good.Goals as goal
+use Rattle.serial_slicer.proofs.turn.CreatureTurnGround.good.Goals as goal
 
 pub good-requires : goal.good-requires
 good-requires c = let t = c.args.self.now in runs t.creature t.sole.now 1 c.requires

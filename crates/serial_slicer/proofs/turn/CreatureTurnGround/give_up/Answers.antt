@@ -3,7 +3,7 @@ use Rattle.std.proofs.lemmas.Result.{on_ok_weaker}
 use Rattle.tierra_model.specs.declared.creatures.Creature.{Creature}
 use Rattle.tierra_model.specs.declared.events.Event.TheVariants as event
 use Rattle.serial_slicer.proofs.Turns.{can_give_up, frame_after, now, ready_after, runs, state_after}
-use Rattle.serial_slicer.proofs.turn.TurnGround.give_up.Goals as goal
+use Rattle.serial_slicer.proofs.turn.CreatureTurnGround.give_up.Goals as goal
 
 pub give_up-requires-2-clause-within : goal.give_up-requires-2-clause-within
 give_up-requires-2-clause-within c = let t = c.args.self.now in runs t.creature t.sole.now 1 c.requires.ready

@@ -5,7 +5,7 @@ use Rattle.tierra_model.specs.Step.{flip_bit}
 use Rattle.tierra_model.proofs.Records.{flipped_below}
 use Rattle.tierra_model.proofs.WithinRun.{cells_below}
 use Rattle.serial_slicer.proofs.Turns.{frame_after, ready_after, state_after}
-use Rattle.serial_slicer.proofs.turn.TurnGround.flip.Goals as goal
+use Rattle.serial_slicer.proofs.turn.CreatureTurnGround.flip.Goals as goal
 
 pub flip-requires-clause-inside : goal.flip-requires-clause-inside
 flip-requires-clause-inside c =
