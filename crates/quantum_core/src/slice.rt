@@ -8,15 +8,15 @@ ghost use Rattle.mutation_streams.specs.Draws.{draws_of};
 
 use crate::ground::Ground;
 use crate::mal::mal;
-use mutation_streams::Draws;
+use mutation_streams::{Draws, Tape};
 use std::sync::ledger::Ledger;
 use step_count::Steps;
 use tierra_model::{Act, OutOfMemory, Settings};
 
-/// The background flip, the disturbance, and the instructions of quantum `quantum`, which has these draws.
-pub fn run_slice<G: Ground, L: Ledger>(
+/// The background flip, the disturbance, and the instructions of quantum `quantum`, with draws off the tape.
+pub fn run_slice<G: Ground, T: Tape, L: Ledger>(
     ground: &mut G,
-    draws: &mut Draws,
+    tape: &mut T,
     settings: &Settings,
     quantum: u64,
     slice: u32,
@@ -25,18 +25,17 @@ pub fn run_slice<G: Ground, L: Ledger>(
     requires ready { G.Ready ground.old (4 * slice + 1) }
     requires settings { settings.now ≡ (G.frame ground.old).settings }
     requires quantum { quantum ≡ (G.frame ground.old).quantum }
-    requires draws { draws.old ≡ draws_of settings.now quantum }
     ensures state { OnOk result (G.state ground.new ≡ run G.machine settings.now quantum slice (G.state ground.old)) }
-    ensures draws { draws.new ≡ draws.old }
     ensures frame { OnOk result (G.frame ground.new ≡ G.frame ground.old) }
     ensures ready { OnOk result (G.Ready ground.new 0) }
     ensures ticks { OnOk result (steps.new ≡ steps.old + slice) }
     ensures err { OnErr result G.Refusal }
 {
-    flip(ground, draws);
+    let mut draws = tape.draws(settings, quantum);
+    flip(ground, &mut draws);
     disturb(ground, settings, quantum)?;
     for i in 0..slice {
-        instruction(ground, draws, i, settings, steps)?;
+        instruction(ground, &mut draws, i, settings, steps)?;
     }
     Ok(())
 }

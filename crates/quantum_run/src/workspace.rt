@@ -14,7 +14,7 @@ use crate::job::Job;
 use crate::on_scene::OnScene;
 use crate::outcome::Outcome;
 use crate::scratch::{Copies, Lists, Room};
-use mutation_streams::Draws;
+use mutation_streams::NoTape;
 use quantum_core::run_slice;
 use slicer_queue::slice_of;
 use std::alloc::Global;
@@ -100,8 +100,7 @@ impl Workspace {
         let mut scene = OnScene::new(job, slice, marks, copies, lists)?;
         let rooms = mem::replace(&mut self.rooms, Vec::new(alloc));
         let quantum = job.quantum();
-        let mut draws = Draws::new(settings, quantum);
-        match run_slice(&mut scene, &mut draws, settings, quantum, slice, steps) {
+        match run_slice(&mut scene, &mut NoTape, settings, quantum, slice, steps) {
             Ok(()) => {
                 let (outcome, marks, copies) = scene.into_outcome();
                 *self = Workspace {

@@ -31,7 +31,6 @@ pub(crate) fn run_quantum<T: Tape, L: Ledger>(
         ≡ steps.old + slice_of (front sole.old.world).own.size sole.old.world.settings) }
 {
     let quantum = sole.quanta() + 1;
-    let mut draws = tape.draws(settings, quantum);
     let creature = sole.begin_turn();
     let slice = slice_of(creature.own.size, settings);
     let mut turn = CreatureTurn {
@@ -39,7 +38,7 @@ pub(crate) fn run_quantum<T: Tape, L: Ledger>(
         sole,
         creature,
     };
-    run_slice(&mut turn, &mut draws, settings, quantum, slice, steps)?;
+    run_slice(&mut turn, tape, settings, quantum, slice, steps)?;
     turn.sole.end_turn(&turn.creature);
     Ok(())
 }
