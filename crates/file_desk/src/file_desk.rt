@@ -74,7 +74,8 @@ fn tell_answer(told: io::Result<()>, faults: &mut u64) -> Result<(), TellFailed>
 // Writes some of the bytes. A write that a signal interrupted is made again.
 fn print_some<W: SteadyWrite>(output: &mut W, bytes: &[u8]) -> io::Result<usize>
     ensures fits { IfOk result (λ count. count ≤ length bytes.now) }
-    ensures ok { IfOk result (λ count. Appended (W.contents output.old) (take count bytes.now) (W.contents output.new)) }
+    ensures ok { IfOk result (λ count.
+        Appended (W.contents output.old) (take count bytes.now) (W.contents output.new)) }
     ensures err { OnErr result (W.contents output.new ≡ W.contents output.old) }
 {
     for _ in 0..u64::MAX {
