@@ -12,3 +12,4 @@ mod StepWords
 mod EventsFit
 mod ShortLists
 pub mod WorldsFit
+mod FalseFitting
