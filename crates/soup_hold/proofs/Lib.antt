@@ -8,3 +8,8 @@ pub mod Whole
 pub mod Settled
 pub mod Together
 mod Stopping
+mod StepWords
+mod EventsFit
+mod ShortLists
+pub mod WorldsFit
+mod FalseFitting

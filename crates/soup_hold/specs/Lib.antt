@@ -3,3 +3,4 @@ pub mod Holding
 pub mod Stops
 pub mod Ending
 pub mod Steps
+pub mod Fitting

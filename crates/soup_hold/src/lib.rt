@@ -2,8 +2,10 @@
 #![tactic(auto)]
 
 mod holding;
+mod laws;
 mod next;
 mod stop;
 
 pub use holding::hold;
+pub use laws::{quantum_fits, serial_fits};
 pub use stop::HoldStop;

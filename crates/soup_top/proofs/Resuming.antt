@@ -20,6 +20,7 @@ use Rattle.soup_hold.specs.Text.{held_line, held_lines, held_quanta, hold_text, 
 use Rattle.soup_hold.proofs.Quanta.{count_of, first_number, held-at, length-held}
 use Rattle.soup_hold.proofs.Refusing.{one_beginning, one_held}
 use Rattle.soup_hold.proofs.Steps.{lines-next}
+use Rattle.soup_hold.proofs.WorldsFit.{serial_fits}
 use Rattle.soup_top.specs.Checkpoints.{DiskHoldsSerial, HasTrueMoments, HoldsSerial, IsHeldOn, IsTrueHold, LeavesLast, Resumes, checkpoints, last_held}
 use Rattle.soup_top.specs.Checkpoints.{quantum_of, resumed_text}
 use Rattle.soup_top.specs.Sources.{run_report}
@@ -29,6 +30,7 @@ use Rattle.tierra_model.specs.Serial.{serial, start}
 use Rattle.tierra_model.specs.Setups.{IsSetup, SetupFields}
 use Rattle.tierra_model.specs.World.{World}
 use Rattle.tierra_model.proofs.StartIsSound.{serial_is_sound}
+use Rattle.world_state.specs.Restoring.{AreBytesOf}
 use Rattle.world_state.specs.StateBytes.{state_bytes}
 
 -- ---- the serial run goes on
@@ -142,24 +144,30 @@ held_of setup start_at = option_map (λ m. state_bytes (serial setup m)) start_a
 abbrev pub first_of : SetupFields → Option ℕ → World
 first_of setup start_at = serial setup (quantum_of start_at)
 
-holds_state : (setup : SetupFields) (start_at : Option ℕ) (image : List ℕ) → HoldsSerial setup start_at image
-    → HoldsState setup (held_of setup start_at) image
-holds_state setup None image h = h
-holds_state setup (Some m) image h = h.0.0
+-- the world of the serial run has its bytes
+serial_bytes : (setup : SetupFields) (m : ℕ) → IsSetup setup → m ≤ MOST_QUANTA → AreBytesOf setup.settings (state_bytes (serial setup m)) (serial setup m)
+serial_bytes setup m is few =
+    let run = serial_is_sound setup m is few in
+    record { settings = run.settings; sound = run.sound; types = serial_fits setup m is few; bytes = refl }
 
-first_is : (setup : SetupFields) (start_at : Option ℕ) (image : List ℕ) → HoldsSerial setup start_at image
+holds_state : (setup : SetupFields) (start_at : Option ℕ) (image : List ℕ) → IsSetup setup → HoldsSerial setup start_at image
+    → HoldsState setup (held_of setup start_at) image
+holds_state setup None image is h = h
+holds_state setup (Some m) image is h = (h.0, h.1, (serial setup m, serial_bytes setup m is h.2))
+
+first_is : (setup : SetupFields) (start_at : Option ℕ) (image : List ℕ) → IsSetup setup → HoldsSerial setup start_at image
     → IsFirst setup (held_of setup start_at) (first_of setup start_at)
-first_is setup None image h = serial-zero setup
-first_is setup (Some m) image h = h.0.1
+first_is setup None image is h = serial-zero setup
+first_is setup (Some m) image is h = serial_bytes setup m is h.2
 
 holds_serial : (setup : SetupFields) (start_at : Option ℕ) (file image : List ℕ) → HoldsSerial setup start_at file
     → HoldsState setup (held_of setup start_at) image → HoldsSerial setup start_at image
 holds_serial setup None file image was h = h
-holds_serial setup (Some m) file image was h = ((h, was.0.1), was.1)
+holds_serial setup (Some m) file image was h = (h.0, h.1, was.2)
 
 few_quanta : (setup : SetupFields) (start_at : Option ℕ) (file : List ℕ) → HoldsSerial setup start_at file → quantum_of start_at ≤ MOST_QUANTA
 few_quanta setup None file h = omega arith
-few_quanta setup (Some m) file h = h.1
+few_quanta setup (Some m) file h = h.2
 
 -- ---- a run that goes on from that
 
@@ -183,18 +191,17 @@ module _ (setup : SetupFields) (start_at : Option ℕ) (file : List ℕ) (read :
   goes_there : GoesOnFrom setup (Some file) first
   goes_there = record {
     held = held;
-    read = holds_state setup start_at file read;
-    is_first = first_is setup start_at file read;
+    read = holds_state setup start_at file is read;
+    is_first = first_is setup start_at file is read;
   }
 
   -- the world after one of its checkpoints
   serial_there : (image : List ℕ) (j q : ℕ) → slice_get all_held j ≡ Some q → HoldsWorld (owner_of setup) (world_at first q) image
       → HoldsSerial setup (Some q) image
   serial_there image j q there holds =
-      let later : quantum_of start_at ≤ q = held_later every (quantum_of start_at) n some j q there in (
-        subst (λ (w : World). HoldsWorld (owner_of setup) w image) (serial_at setup is (quantum_of start_at) q few later) holds,
-        omega (arith, most, held_within every (quantum_of start_at) n some j q there),
-      )
+      let later : quantum_of start_at ≤ q = held_later every (quantum_of start_at) n some j q there in
+      let mine = subst (λ (w : World). HoldsWorld (owner_of setup) w image) (serial_at setup is (quantum_of start_at) q few later) holds in
+      (mine.0.0, mine.0.1, omega (arith, most, held_within every (quantum_of start_at) n some j q there))
 
   -- what it tells is what the serial run tells after that
   text_there : quantum_of start_at ≤ n → hold_text first n every ≡ resumed_text setup n every start_at
@@ -276,7 +283,7 @@ module _ (setup : SetupFields) (start_at : Option ℕ) (file : List ℕ) (read :
       → DiskHoldsSerial setup (last_held start_at all_held) new.reads new.may_leave
   leaves_last new end =
       let same : end.first ≡ first = one_beginning setup (Some file) file end.first first refl end.goes_on goes_there in
-      let state : end.goes_on.held ≡ held = one_held setup file end.goes_on.held held end.goes_on.read (holds_state setup start_at file read) in
+      let state : end.goes_on.held ≡ held = one_held setup file end.goes_on.held held end.goes_on.read (holds_state setup start_at file is read) in
       let its = subst (λ (o : Option (List ℕ)). IsLast (owner_of setup) (HoldsState setup o) end.first (held_quanta every end.first.quanta n) new)
       state end.last in
       let here = subst (λ (w : World). IsLast (owner_of setup) (HoldsState setup held) w (held_quanta every w.quanta n) new) same its in
@@ -315,4 +322,4 @@ module _ (setup : SetupFields) (n every : ℕ) (old new : DeskState) (is : IsSet
       (OfStart (λ file start. Elapses old new (IsHeldOn setup n every start old.may_leave file old.told)))
       (λ file at moments start read.
       held_on setup start file read is n every some most old new
-      (moments (held_of setup start) (first_of setup start) (holds_state setup start file read) (first_is setup start file read)))
+      (moments (held_of setup start) (first_of setup start) (holds_state setup start file is read) (first_is setup start file is read)))

@@ -3,20 +3,23 @@ use Rattle.std.specs.Prelude.{All, IfSome, IsSomeAnd, List, [], None, Option, So
 use Rattle.std.specs.Prelude.{unwrap_or, ℕ}
 use Rattle.std.specs.Prelude.{◌∷◌, ◌++◌, ◌≡◌, ◌⊎◌, ◌≤◌}
 use Rattle.desk_io.specs.Desk.{Appended, DeskState, Elapses, WithText}
-use Rattle.soup_checkpoint.specs.Hold.{owner_of}
+use Rattle.soup_checkpoint.specs.Hold.{EndsWith, IsOwned, owner_of}
 use Rattle.soup_checkpoint.specs.Shelf.{SaysAsBefore}
 use Rattle.desk_io.specs.Told.{BeginsWithText, IsToldAfter}
-use Rattle.soup_hold.specs.Holding.{HoldsState, HoldsWorld}
+use Rattle.soup_hold.specs.Holding.{HoldsState}
 use Rattle.soup_hold.specs.Text.{held_lines, held_quanta}
 use Rattle.soup_top.specs.Sources.{run_report}
 use Rattle.tierra_model.specs.declared.limits.TheConstants.{MOST_QUANTA}
 use Rattle.tierra_model.specs.Serial.{serial}
 use Rattle.tierra_model.specs.Setups.{SetupFields}
+use Rattle.world_state.specs.StateBytes.{state_bytes}
 
--- the image holds the serial run's world after this quantum, or none
+-- the image holds the serial run's world after this quantum, or none: its header is the setup's, and its last frame has
+-- the bytes of that world
 abbrev pub HoldsSerial : SetupFields → Option ℕ → List ℕ → Type 0
 HoldsSerial setup None image = HoldsState setup None image
-HoldsSerial setup (Some m) image = HoldsWorld (owner_of setup) (serial setup m) image × (m ≤ MOST_QUANTA)
+HoldsSerial setup (Some m) image =
+    IsOwned image (owner_of setup).digest × EndsWith image (state_bytes (serial setup m)) × (m ≤ MOST_QUANTA)
 
 -- what a read gives, and whatever a crash may leave, holds the serial run's world after this quantum, or none
 pub record DiskHoldsSerial (setup : SetupFields) (held : Option ℕ) (reads : Option (List ℕ))
