@@ -39,7 +39,8 @@ pub(crate) fn run_quantum<T: Tape, L: Ledger>(
         creature,
     };
     run_slice(&mut turn, tape, settings, quantum, slice, steps)?;
-    turn.sole.end_turn(&turn.creature);
+    let after = turn.creature;
+    turn.sole.end_turn(&after);
     Ok(())
 }
 
