@@ -45,7 +45,7 @@ impl<'a> PageReader<'a> {
     }
 
     /// The instruction's code in a cell.
-    #[inline]
+    #[inline(always)]
     pub(crate) fn get(&mut self, at: u32) -> u8
         requires { at < length self.old }
         ensures value { result ≡ slice_index self.old at }
