@@ -45,27 +45,28 @@ pub record HasStopped (first : BankState) (run : List GroupFields) (old now : De
   pub partly : AppendedSome old.told (saved_lines run) now.told
   pub counts : CountsStop cause now
 
+-- all groups of a run were taken to its bank since the start
+abbrev pub TookAll : BankState → List GroupFields → DeskState → DeskState → Type 0
+TookAll first run old now = (bank : BankState) × HasTaken first run old now (length run) bank
+
+-- ---- a run's hand
+
+-- the groups of the run that began so
+abbrev pub groups_of : {D : Type 0} → Start D → List GroupFields
+groups_of start = run_groups start.plan.value.setup start.plan.value.quanta
+
 abbrev pub GoesOn : {D : Type 0} → (D → DeskState) → Start D → D → Keeper → Type 0
 GoesOn state start desk keeper =
     (bank : BankState) × (keeper.bank ≡ Some bank)
-    × HasTaken start.bank.value (run_groups start.setup.value start.quanta) (state start.desk.value) (state desk)
-    keeper.done bank
+    × HasTaken start.bank.value (groups_of start) (state start.desk.value) (state desk) keeper.done bank
 
 abbrev pub StopsAt : {D : Type 0} → (D → DeskState) → Start D → D → RunStop → Type 0
-StopsAt state start desk =
-    HasStopped start.bank.value (run_groups start.setup.value start.quanta) (state start.desk.value) (state desk)
+StopsAt state start desk = HasStopped start.bank.value (groups_of start) (state start.desk.value) (state desk)
 
 -- The run goes on, or it has stopped at the cause that the keeper holds.
 abbrev pub IsOnTheWay : {D : Type 0} → (D → DeskState) → Start D → D → Keeper → Type 0
 IsOnTheWay state start desk keeper = MatchOption keeper.stopped (GoesOn state start desk keeper)
     (StopsAt state start desk)
-
--- all groups of the run were taken
-abbrev pub TookAll : {D : Type 0} → (D → DeskState) → Start D → D → Type 0
-TookAll state start desk =
-    (bank : BankState)
-    × HasTaken start.bank.value (run_groups start.setup.value start.quanta) (state start.desk.value) (state desk)
-    (length (run_groups start.setup.value start.quanta)) bank
 
 abbrev pub number_of_stops : Option RunStop → ℕ
 number_of_stops None = 0

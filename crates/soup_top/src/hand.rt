@@ -1,32 +1,28 @@
 //! The hand of a run: takes the run's groups to its bank as they come, and tells their lines.
 
-ghost use Rattle.std.specs.Prelude.{◌≡◌, ◌+◌, ◌≤◌, IfErr, IfOk, None, OnOk, Some, length, slice_get};
+ghost use Rattle.std.specs.Prelude.{◌≡◌, ◌+◌, ◌≤◌, IfErr, None, OnOk, Some, length, slice_get};
 ghost use Rattle.crew.specs.Hand.{AreNext, OnGo, OnHalt};
 ghost use Rattle.crew.specs.Ran.{HaltsAsIn, IfEnded};
-ghost use Rattle.commit_book.specs.Book.{world_of};
-ghost use Rattle.report_text.specs.Report.{report};
-ghost use Rattle.soup_top.specs.Handing.{GoesOn, IsOnTheWay, StopsAt, TookAll, number_of_stops};
-ghost use Rattle.soup_top.specs.Sources.{run_groups, run_report};
-ghost use Rattle.tierra_model.specs.declared.limits.TheConstants.{MOST_QUANTA, MOST_WORKERS};
+ghost use Rattle.soup_top.specs.Handing.{GoesOn, IsOnTheWay, StopsAt, groups_of, number_of_stops};
+ghost use Rattle.tierra_model.specs.declared.limits.TheConstants.{MOST_WORKERS};
 
 use crate::keeping::take_group;
+use crate::plan::Plan;
 use crate::stop::RunStop;
 use bank_journal::Bank;
 use commit_book::Book;
 use crew::{Gate, Hand, Next, Ran, run_crew};
 use desk_io::Desk;
-use report_text::report;
 use std::alloc::Global;
 use std::snapshot::Snapshot;
 use std::sync::Wait;
 use std::thread::Threads;
-use tierra_model::{Group, Groups, Setup, Text};
+use tierra_model::{Group, Groups};
 
-/// What a run began with, which only contracts see: its setup, its quanta, and its desk and bank as they were then.
+/// What a run began with, which only contracts see: its plan, and its desk and bank as they were then.
 #[derive(Drop)]
 pub(crate) struct Start<D> {
-    pub setup: Snapshot<Setup>,
-    pub quanta: u64,
+    pub plan: Snapshot<Plan>,
     pub desk: Snapshot<D>,
     pub bank: Snapshot<Bank>,
 }
@@ -49,10 +45,9 @@ fn keep_one<D: Desk>(
     keeper: &mut Keeper,
     group: Group,
 ) -> Result<(), RunStop>
-    requires few { start.now.quanta ≤ MOST_QUANTA }
     requires unstopped { keeper.old.stopped ≡ None }
     requires way { GoesOn D.state start.now desk.old keeper.old }
-    requires next { slice_get (run_groups start.now.setup.value start.now.quanta) keeper.old.done ≡ Some group }
+    requires next { slice_get (groups_of start.now) keeper.old.done ≡ Some group }
     ensures unstopped { keeper.new.stopped ≡ None }
     ensures done { OnOk result (keeper.new.done ≡ keeper.old.done + 1) }
     ensures way { OnOk result (GoesOn D.state start.now desk.new keeper.new) }
@@ -76,10 +71,9 @@ fn keep_next<D: Desk>(
     keeper: &mut Keeper,
     groups: Groups,
 ) -> Next
-    requires few { start.now.quanta ≤ MOST_QUANTA }
     requires unstopped { keeper.old.stopped ≡ None }
     requires way { GoesOn D.state start.now desk.old keeper.old }
-    requires next { AreNext start.now.setup.value start.now.quanta keeper.old.done groups }
+    requires next { AreNext start.now.plan.value.setup start.now.plan.value.quanta keeper.old.done groups }
     ensures go { OnGo result ((keeper.new.done ≡ keeper.old.done + length groups) × (keeper.new.stopped ≡ None)) }
     ensures halt { OnHalt result (number_of_stops keeper.new.stopped ≡ 1) }
     ensures way { IsOnTheWay D.state start.now desk.new keeper.new }
@@ -103,20 +97,19 @@ struct RunHand<'a, 'b, 'c, D> {
 }
 
 impl<D: Desk> Hand for RunHand<'_, '_, '_, D> {
-    ghost use Rattle.std.specs.Prelude.{◌≡◌, ◌≤◌};
+    ghost use Rattle.std.specs.Prelude.{◌≡◌};
     ghost use Rattle.std.proofs.Common.{refl, ◌∙◌};
     ghost use Rattle.soup_top.specs.Handing.{IsOnTheWay, number_of_stops};
 
-    ghost setup = { λ h. h.start.now.setup.value };
+    ghost setup = { λ h. h.start.now.plan.value.setup };
 
-    ghost quanta = { λ h. h.start.now.quanta };
+    ghost quanta = { λ h. h.start.now.plan.value.quanta };
 
     ghost done = { λ h. h.keeper.now.done };
 
     ghost halts = { λ h. number_of_stops h.keeper.now.stopped };
 
-    ghost can_put = { λ h. (h.start.now.quanta ≤ MOST_QUANTA)
-        × IsOnTheWay D.state h.start.now h.desk.now h.keeper.now };
+    ghost can_put = { λ h. IsOnTheWay D.state h.start.now h.desk.now h.keeper.now };
 
     // Both have the same desk, keeper and start. Where the first is on its way, the second is too.
     ghost goes_to = { λ a b. (b.desk.ghost_name ≡ a.desk.ghost_name) × (b.keeper.ghost_name ≡ a.keeper.ghost_name)
@@ -137,8 +130,8 @@ impl<D: Desk> Hand for RunHand<'_, '_, '_, D> {
     ghost goes_on = { λ a b c p q. (q.0 ∙ p.0, q.1 ∙ p.1, q.2 ∙ p.2, λ w. q.3 (p.3 w)) };
 }
 
-// Runs the book with a crew, and takes its groups to the bank as they come.
-fn run_book<R: Threads + Wait + Sync, G: Gate + Sync, D: Desk>(
+/// Runs the book with a crew, and takes its groups to the bank as they come.
+pub(crate) fn run_book<R: Threads + Wait + Sync, G: Gate + Sync, D: Desk>(
     rt: &R,
     alloc: Global,
     gate: &G,
@@ -149,16 +142,15 @@ fn run_book<R: Threads + Wait + Sync, G: Gate + Sync, D: Desk>(
     workers: u32,
 ) -> Ran
     requires workers { (1 ≤ workers) × (workers ≤ MOST_WORKERS) }
-    requires few { start.now.quanta ≤ MOST_QUANTA }
-    requires setup { start.now.setup.value ≡ book.setup }
-    requires quanta { start.now.quanta ≡ book.quanta }
+    requires setup { start.now.plan.value.setup ≡ book.setup }
+    requires quanta { start.now.plan.value.quanta ≡ book.quanta }
     requires unstopped { keeper.old.stopped ≡ None }
     requires begun { keeper.old.done ≡ 0 }
     requires way { GoesOn D.state start.now desk.old keeper.old }
     ensures way { IsOnTheWay D.state start.now desk.new keeper.new }
-    ensures ended { IfEnded result (λ b. (b.setup ≡ start.now.setup.value) × (b.quanta ≡ start.now.quanta)
-        × (b.committed ≡ b.quanta)) }
-    ensures all { IfEnded result (λ b. keeper.new.done ≡ length (run_groups start.now.setup.value start.now.quanta)) }
+    ensures ended { IfEnded result (λ b. (b.setup ≡ start.now.plan.value.setup)
+        × (b.quanta ≡ start.now.plan.value.quanta) × (b.committed ≡ b.quanta)) }
+    ensures all { IfEnded result (λ b. keeper.new.done ≡ length (groups_of start.now)) }
     ensures halts { HaltsAsIn result (number_of_stops keeper.new.stopped) }
 {
     let mut hand = RunHand {
@@ -168,44 +160,4 @@ fn run_book<R: Threads + Wait + Sync, G: Gate + Sync, D: Desk>(
         keeper,
     };
     run_crew(rt, alloc, book, workers, gate, &mut hand)
-}
-
-// The report of a book's world.
-fn report_of(alloc: Global, book: Book) -> Result<Text, RunStop>
-    ensures report { IfOk result (λ text. text ≡ report (world_of book)) }
-    ensures memory { IfErr result (λ s. s ≡ RunStop.OutOfMemory) }
-{
-    match report(alloc, book.world()) {
-        Ok(text) => Ok(text),
-        Err(_) => Err(RunStop::OutOfMemory),
-    }
-}
-
-/// Runs the book with a crew, takes its groups to the bank as they come, and gives the report of its world.
-pub(crate) fn keep_book<R: Threads + Wait + Sync, G: Gate + Sync, D: Desk>(
-    rt: &R,
-    alloc: Global,
-    gate: &G,
-    start: &Start<D>,
-    desk: &mut D,
-    keeper: &mut Keeper,
-    book: Book,
-    workers: u32,
-) -> Result<Text, RunStop>
-    requires workers { (1 ≤ workers) × (workers ≤ MOST_WORKERS) }
-    requires few { start.now.quanta ≤ MOST_QUANTA }
-    requires setup { start.now.setup.value ≡ book.setup }
-    requires quanta { start.now.quanta ≡ book.quanta }
-    requires unstopped { keeper.old.stopped ≡ None }
-    requires begun { keeper.old.done ≡ 0 }
-    requires way { GoesOn D.state start.now desk.old keeper.old }
-    ensures report { IfOk result (λ text. text ≡ run_report start.now.setup.value start.now.quanta) }
-    ensures took_all { OnOk result (TookAll D.state start.now desk.new) }
-    ensures stopped { IfErr result (StopsAt D.state start.now desk.new) }
-{
-    let ran = run_book(rt, alloc, gate, start, desk, keeper, book, workers);
-    let Ran::Ended(book) = ran else {
-        return Err(keeper.stopped.unwrap_or(RunStop::OutOfMemory));
-    };
-    report_of(alloc, book)
 }

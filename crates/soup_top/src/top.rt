@@ -9,6 +9,7 @@ ghost use Rattle.soup_top.specs.Stops.{CountsStops};
 ghost use Rattle.soup_top.specs.Tasks.{IsFew, IsTellingFor, OfText, UnlessWriting};
 
 use crate::asking::{Task, task_asked};
+use crate::plan::Plan;
 use crate::running::run;
 use crate::status::Status;
 use crate::stop::RunStop;
@@ -138,7 +139,14 @@ fn carry_out<R: Threads + Wait + Sync, G: Gate + Sync, D: Desk>(
             setup,
             quanta,
             workers,
-        } => run(rt, alloc, desk, gate, setup, quanta, workers),
+        } => {
+            let plan = Plan {
+                setup,
+                quanta,
+                workers,
+            };
+            run(rt, alloc, desk, gate, plan)
+        }
         Task::Tell { text } => Ok(desk.tell(&text.items)?),
         Task::Bank => tell_bank(alloc, desk),
         Task::Probe { quanta, workers } => tell_probe(rt, alloc, desk, quanta, workers),

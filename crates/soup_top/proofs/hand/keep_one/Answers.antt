@@ -1,8 +1,7 @@
 use Rattle.std.proofs.Common.{rules, refl, arith}
 use Rattle.std.proofs.lemmas.Option.{slice_get_within}
 use Rattle.std.proofs.lemmas.Result.{err_from_is_err_and}
-use Rattle.soup_top.specs.Handing.{HasTaken}
-use Rattle.soup_top.specs.Sources.{run_groups}
+use Rattle.soup_top.specs.Handing.{HasTaken, groups_of}
 use Rattle.soup_top.proofs.Handed.{next_has_stopped, next_has_taken, run-few, that_bank}
 use Rattle.soup_top.proofs.hand.keep_one.Given.{Over}
 use Rattle.soup_top.proofs.hand.keep_one.Goals as goal
@@ -10,12 +9,11 @@ use Rattle.soup_top.proofs.hand.keep_one.Goals.{After-take_group}
 
 -- where the one that is taken comes
 so_far : (g : Over) (c : After-take_group g)
-    → HasTaken c.args.start.now.bank.value (run_groups c.args.start.now.setup.value c.args.start.now.quanta) (g.D.Desk.state c.args.start.now.desk.value)
+    → HasTaken c.args.start.now.bank.value (groups_of c.args.start.now) (g.D.Desk.state c.args.start.now.desk.value)
     (g.D.Desk.state c.args.desk.now) c.args.keeper.now.done c.in-Some.bank
 so_far g c =
     let start = c.args.start.now in
-    that_bank (HasTaken start.bank.value (run_groups start.setup.value start.quanta) (g.D.Desk.state start.desk.value) (g.D.Desk.state c.args.desk.now)
-    c.args.keeper.now.done)
+    that_bank (HasTaken start.bank.value (groups_of start) (g.D.Desk.state start.desk.value) (g.D.Desk.state c.args.desk.now) c.args.keeper.now.done)
     c.args.keeper.now.bank c.in-Some.bank c.requires.way (search rules)
 
 pub returns-in_err-bank-clause-stopped : goal.returns-in_err-bank-clause-stopped
@@ -29,9 +27,9 @@ returns-in_err-bank-clause-stopped g c =
 pub overflow_add-keeper : goal.overflow_add-keeper
 overflow_add-keeper g c =
     let start = c.args.start.now in
-    let run = run_groups start.setup.value start.quanta in
-    let few = run-few start.setup.value start.quanta c.requires.few in
-    let inside = slice_get_within run c.args.keeper.now.done c.args.group c.requires.next in
+    let plan = start.plan.value in
+    let few = run-few plan.setup plan.quanta plan.few.1 in
+    let inside = slice_get_within (groups_of start) c.args.keeper.now.done c.args.group c.requires.next in
     omega (arith, few, inside)
 
 pub returns-clause-way : goal.returns-clause-way
