@@ -121,7 +121,7 @@ fn has_blocks(alloc: Global, draft: &Draft, blocks: &[Block]) -> Result<bool, Ou
 fn ends_of(draft: &Draft) -> [Option<u64>; 3] {
     [
         draft.living.first().map(|creature| creature.id),
-        draft.founds.last().and_then(|found| found.parent),
+        draft.stored.last().and_then(|found| found.parent),
         draft.saved.last().map(|saving| saving.quantum),
     ]
 }
