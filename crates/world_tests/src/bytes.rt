@@ -69,7 +69,7 @@ fn numbers_of(draft: &Draft) -> [Option<u64>; 6] {
         Some(draft.births),
         Some(draft.deaths),
         Some(draft.next_birth),
-        draft.founds.first().map(|found| found.total),
+        draft.stored.first().map(|found| found.total),
         draft.saved.first().map(|saving| saving.genotype),
     ]
 }
