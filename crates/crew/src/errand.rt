@@ -14,7 +14,7 @@ use tierra_model::OutOfMemory;
 
 /// What came of an errand after a turn.
 #[derive(Clone, Copy, Debug, Drop)]
-pub(crate) struct Outcome {
+pub(crate) struct ErrandEnd {
     pub next: Next,
     /// Whether there was memory for its load. If not, it was not run.
     pub is_loaded: bool,

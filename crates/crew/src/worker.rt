@@ -5,7 +5,7 @@ ghost use Rattle.tierra_model.specs.declared.limits.TheConstants.{MOST_QUANTA};
 ghost use Rattle.crew.specs.Hand.{OnGo};
 ghost use Rattle.crew.specs.Works.{HasWorked};
 
-use crate::errand::{Errand, NoErrand, Outcome};
+use crate::errand::{Errand, ErrandEnd, NoErrand};
 use crate::gate::Gate;
 use crate::hand::Next;
 use crate::trial::Stay;
@@ -32,7 +32,7 @@ struct Turned {
     seat: Seat,
     served: Served,
     quanta: u64,
-    outcome: Outcome,
+    outcome: ErrandEnd,
 }
 
 // Takes a turn, in which a finding is offered and a job claimed, and then runs the errand.
@@ -70,7 +70,7 @@ fn turn<R: Wait, G, E: Errand>(
         seat,
         served,
         quanta,
-        outcome: Outcome { next, is_loaded },
+        outcome: ErrandEnd { next, is_loaded },
     }
 }
 
@@ -89,7 +89,7 @@ fn stop<R: Wait, G>(crew: &Crew<'_, R, G>, seat: Seat) -> Seat
 #[derive(Drop)]
 pub(crate) struct Worked {
     pub seat: Seat,
-    pub outcome: Outcome,
+    pub outcome: ErrandEnd,
 }
 
 /// Takes turns, and runs the jobs that it gets in them, until it gets none or does not stay. The errand is run after
@@ -103,6 +103,7 @@ pub(crate) fn work_with<R: Wait, G: Gate, E: Errand>(
     requires room { seat.turns < 2 ^ 39 }
     requires ready { E.is_ready crew.now.lock.now.opening.setup errand.old }
     ensures worked { HasWorked (2 * crew.now.lock.now.opening.setup.1 + 2) seat result.seat }
+    ensures few { crew.now.lock.now.opening.setup.1 ≤ MOST_QUANTA }
     ensures went { E.went result.outcome.next errand.old errand.new }
     ensures done { IsTrue result.outcome.is_loaded
         → OnGo result.outcome.next (E.has_done result.seat.seen errand.new) }
