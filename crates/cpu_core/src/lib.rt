@@ -37,6 +37,7 @@ use tierra_model::{Creature, Op, Settings, View};
 ///
 /// A write or an error is done here. At `Mal` and `Divide` the caller does the rest, and then calls `mal_done` or
 /// `divide_done`.
+#[inline(always)]
 pub fn step<V: View, L: Ledger>(
     creature: &mut Creature,
     view: &mut V,
@@ -83,6 +84,7 @@ fn decode(code: u8) -> Op
 }
 
 // Executes the instruction at `ip`; the record's `ip` is at the next cell already.
+#[inline(always)]
 fn execute<V: View>(
     creature: &mut Creature,
     view: &mut V,

@@ -101,6 +101,7 @@ fn reap_times<G: Ground>(ground: &mut G, times: u64) -> Result<(), OutOfMemory>
 }
 
 // One instruction.
+#[inline(always)]
 fn instruction<G: Ground, L: Ledger>(
     ground: &mut G,
     draws: &mut Draws,

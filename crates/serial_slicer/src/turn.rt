@@ -105,6 +105,8 @@ impl Ground for CreatureTurn<'_> {
         self.sole.flip(at, bit);
     }
 
+    // Put into each loop that runs a slice: as a call it took a seventh longer.
+    #[inline(always)]
     fn step<L: Ledger>(
         &mut self,
         draws: &mut Draws,
