@@ -6,7 +6,7 @@ use Rattle.std.proofs.lemmas.Option.{same_Some}
 use mathlib.Core.Logic.{dite}
 use native.Mathlib.Decide.{ℕ_discrete}
 use Rattle.turn_lock.specs.Seat.{LockFields, SeatFields, SpeaksForAll, first_seat, new_seat, only, own_of}
-use Rattle.crew.specs.Works.{HasWorked, IsDone, IsFirst, IsOther, IsThere, SpeaksFrom}
+use Rattle.crew.specs.Works.{HasWorked, IsFirst, IsOther, IsThere, SpeaksFrom}
 
 -- the seat that is there is that one
 pub that_one : (P : SeatFields → Type 0) (o : Option SeatFields) (s : SeatFields) → IsThere o P → o ≡ Some s → P s
@@ -64,10 +64,10 @@ left_last : (o p : Option ℕ) (last : ℕ) → o ≡ Some last → option_or o 
 left_last None p last e = cc
 left_last (Some k) p last e = e
 
-pub joined_speaks : (at : LockFields) (caller m : ℕ) (s t u : SeatFields) → SpeaksFrom (caller + 1) at s → IsDone at caller m t
+pub joined_speaks : (at : LockFields) (caller : ℕ) (s t u : SeatFields) → SpeaksFrom (caller + 1) at s → IsOther at caller (record t { turns = 0 })
     → u.lock ≡ s.lock → u.last_caller ≡ option_or s.last_caller t.last_caller → ((c : ℕ) → own_of u c ≡ option_or (own_of s c) (own_of t c))
     → SpeaksFrom caller at u
-joined_speaks at caller m s t u first other lock last own = record {
+joined_speaks at caller s t u first other lock last own = record {
   lock = lock ∙ first.lock;
   last = first.last;
   last_is = last ∙ left_last s.last_caller t.last_caller first.last first.last_is;

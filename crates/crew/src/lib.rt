@@ -21,6 +21,6 @@ mod worker;
 
 pub use gate::{FreeGate, Gate};
 pub use hand::{Hand, Next};
-pub use runs::{Ran, run_crew, seat_for, work_all};
+pub use runs::{Ran, run_crew, seat_for};
 pub use trial::{number_of_drawers, takes_jobs};
 pub use worker::work;

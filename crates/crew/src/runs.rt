@@ -1,12 +1,12 @@
 //! The crew.
 
-ghost use Rattle.std.specs.Prelude.{◌≡◌, ◌+◌, ◌*◌, ◌<◌, ◌≤◌, IfOk, OnErr, OnOk, length, true};
+ghost use Rattle.std.specs.Prelude.{◌≡◌, ◌+◌, ◌<◌, ◌≤◌, IfOk, OnErr, OnOk, length, true};
 ghost use Rattle.tierra_model.specs.declared.limits.TheConstants.{MOST_WORKERS};
 ghost use Rattle.std.specs.Thread.{IsSync};
 ghost use Rattle.crew.specs.Beside.{IsOfRun};
 ghost use Rattle.crew.specs.Hand.{IsUnhalted, run_bank};
 ghost use Rattle.crew.specs.Ran.{HaltsAsIn, IfEnded, IfHalted};
-ghost use Rattle.crew.specs.Works.{IsDone, IsFirst, IsOther, IsThere, SpeaksFrom, worker_turns};
+ghost use Rattle.crew.specs.Works.{IsFirst, IsOther, IsThere, SpeaksFrom};
 
 use crate::alone::{halted, run_alone};
 use crate::beside::{Left, run_beside};
@@ -48,7 +48,7 @@ pub fn seat_for(lock: &TurnLock<Book>, first: &mut Seat, caller: u32) -> Result<
 // Takes a worker's seat, and works.
 fn work_on<R: Wait, G: Gate>(crew: &Crew<'_, R, G>, caller: u32, seat: &mut Option<Seat>) -> Seat
     requires { IsThere seat.old (IsOther crew.now.lock.now caller) }
-    ensures { IsDone crew.now.lock.now caller worker_turns result }
+    ensures { IsOther crew.now.lock.now caller (record result { turns = 0 }) }
 {
     let Some(seat) = seat.take() else {
         unreachable!()
@@ -69,7 +69,6 @@ fn crew_from<R: Threads + Wait + Sync, G: Gate + Sync, E: Errand>(
     requires callers { (2 ≤ caller) × (caller ≤ workers + 1) × (workers ≤ MOST_WORKERS) }
     requires ready { E.is_ready crew.now.lock.now.opening.setup errand.old }
     ensures seat { SpeaksFrom caller crew.now.lock.now result.seat }
-    ensures turns { result.seat.turns + worker_turns * caller ≤ worker_turns * (MOST_WORKERS + 2) }
     ensures went { E.went result.outcome.next errand.old errand.new }
 {
     let Some(mut seat) = first.take() else {
@@ -87,14 +86,13 @@ fn crew_from<R: Threads + Wait + Sync, G: Gate + Sync, E: Errand>(
         crew.rt,
         &mut || -> Seat
             requires { (IsSync R.row × IsSync G.row) × IsThere theirs (IsOther crew.now.lock.now caller) }
-            ensures { IsDone crew.entry.now.lock.now caller worker_turns result }
+            ensures { IsOther crew.entry.now.lock.now caller (record result { turns = 0 }) }
         { work_on(crew, caller, &mut theirs) },
         &mut || -> Worked
             requires { (IsSync R.row × IsSync G.row) × IsThere mine (IsFirst crew.now.lock.now (caller + 1))
                 × ((2 ≤ caller) × (caller ≤ workers) × (workers ≤ MOST_WORKERS))
                 × E.is_ready crew.now.lock.now.opening.setup errand.now }
             ensures { SpeaksFrom (caller + 1) crew.entry.now.lock.now result.seat
-                × (result.seat.turns + worker_turns * (caller + 1) ≤ worker_turns * (MOST_WORKERS + 2))
                 × E.went result.outcome.next errand.entry.now errand.exit.now }
         { crew_from(crew, &mut mine, caller + 1, workers, errand) },
     );
@@ -102,32 +100,6 @@ fn crew_from<R: Threads + Wait + Sync, G: Gate + Sync, E: Errand>(
         seat: crew.lock.join_seats(worked.seat, other),
         outcome: worked.outcome,
     }
-}
-
-/// Works as worker 1 until there is no job, and beside it the workers from `caller` to `last`, as far as there is memory
-/// for their seats. The seat of worker 1 comes back, joined with theirs.
-pub fn work_all<R: Threads + Wait + Sync, G: Gate + Sync>(
-    rt: &R,
-    alloc: Global,
-    lock: &TurnLock<Book>,
-    first: &mut Option<Seat>,
-    caller: u32,
-    last: u32,
-    gate: &G,
-) -> Seat
-    requires seat { IsThere first.old (IsFirst lock.now caller) }
-    requires callers { (2 ≤ caller) × (caller ≤ last + 1) × (last ≤ MOST_WORKERS) }
-    ensures seat { SpeaksFrom caller lock.now result }
-    ensures turns { result.turns ≤ worker_turns * MOST_WORKERS }
-{
-    let crew = Crew {
-        rt,
-        alloc,
-        lock,
-        gate,
-        stay: Stay::ToTheEnd,
-    };
-    crew_from(&crew, first, caller, last, &mut NoErrand).seat
 }
 
 /// Runs a book to its end, with this many workers, and hands the groups of its genebank over as they come. The calling

@@ -1,14 +1,14 @@
 //! A run that an observer watches.
 
-ghost use Rattle.std.specs.Prelude.{◌-◌, ◌≡◌, ◌+◌, ◌*◌, ◌++◌, ◌<◌, ◌≤◌, ◌^◌, IfOk, OnOk, min};
+ghost use Rattle.std.specs.Prelude.{◌-◌, ◌≡◌, ◌+◌, ◌++◌, ◌<◌, ◌≤◌, ◌^◌, IfOk, OnOk, min};
 ghost use Rattle.std.specs.Thread.{IsSync};
 ghost use Rattle.tierra_model.specs.declared.limits.TheConstants.{MOST_LOOKS, MOST_QUANTA, MOST_WORKERS};
 ghost use Rattle.tierra_model.specs.Serial.{serial};
 ghost use Rattle.commit_book.specs.Book.{world_of};
 ghost use Rattle.commit_book.specs.Giving.{MayGive};
-ghost use Rattle.crew.specs.Works.{HasWorked, IsDone, IsFirst, IsOther, IsThere, SpeaksFrom, worker_turns};
+ghost use Rattle.crew.specs.Works.{HasWorked, IsFirst, IsOther, IsThere};
 ghost use Rattle.report_text.specs.Report.{report};
-ghost use Rattle.soup_watch.specs.Seats.{HasSeen, observer_turns};
+ghost use Rattle.soup_watch.specs.Seats.{HasSeen, IsDone, IsJoined, IsLead, IsWatched, observer_turns};
 ghost use Rattle.soup_watch.specs.Text.{sights_text};
 ghost use Rattle.soup_watch.specs.Watching.{AreSights, IsWatchText};
 
@@ -17,7 +17,7 @@ use crate::sights::Sights;
 use crate::text::sights_text;
 use crate::waiting::wait_until;
 use commit_book::{Advanced, Book};
-use crew::{Gate, seat_for, work_all};
+use crew::{Gate, seat_for, work};
 use report_text::report;
 use std::alloc::{AllocError, Global};
 use std::marker::Brand;
@@ -27,6 +27,53 @@ use std::thread::{Threads, join_mut};
 use step_count::Steps;
 use tierra_model::{OutOfMemory, Setup, Text};
 use turn_lock::{Seat, TurnLock};
+
+/// What the workers and their observer leave: the seat of worker 1, the seat of the observer joined with those of the
+/// other workers, and what was seen.
+#[derive(Drop)]
+pub(crate) struct Watched {
+    lead: Seat,
+    observer: Seat,
+    sights: Sights,
+}
+
+// Takes a worker's seat, and works.
+fn work_on<R: Wait, G: Gate>(
+    rt: &R,
+    alloc: Global,
+    lock: &TurnLock<Book>,
+    caller: u32,
+    seat: &mut Option<Seat>,
+    gate: &G,
+) -> Seat
+    requires seat { IsThere seat.old (IsOther lock.now caller) }
+    requires few { lock.now.opening.setup.1 ≤ MOST_QUANTA }
+    ensures { IsDone lock.now caller result }
+{
+    let Some(seat) = seat.take() else {
+        unreachable!()
+    };
+    work(rt, alloc, lock, seat, gate)
+}
+
+// Takes the seat of worker 1, from which the observer's was split off, and works.
+fn lead_on<R: Wait, G: Gate>(
+    rt: &R,
+    alloc: Global,
+    lock: &TurnLock<Book>,
+    observer: u32,
+    seat: &mut Option<Seat>,
+    gate: &G,
+) -> Seat
+    requires seat { IsThere seat.old (IsFirst lock.now (observer + 1)) }
+    requires few { lock.now.opening.setup.1 ≤ MOST_QUANTA }
+    ensures { IsLead lock.now observer result }
+{
+    let Some(seat) = seat.take() else {
+        unreachable!()
+    };
+    work(rt, alloc, lock, seat, gate)
+}
 
 // Waits until this many quanta are committed, and looks.
 fn look_next<R: Wait>(
@@ -86,13 +133,14 @@ fn observe_on<R: Wait>(
     rt: &R,
     alloc: Global,
     lock: &TurnLock<Book>,
+    observer: u32,
     seat: &mut Option<Seat>,
     quanta: u64,
     looks: u64,
 ) -> Result<(Seat, Sights), OutOfMemory>
-    requires seat { IsThere seat.old (IsOther lock.now 2) }
+    requires seat { IsThere seat.old (IsOther lock.now observer) }
     requires few { (quanta ≤ MOST_QUANTA) × (looks ≤ MOST_LOOKS) }
-    ensures done { IfOk result (λ r. IsDone lock.now 2 observer_turns r.0) }
+    ensures joined { IfOk result (λ r. IsJoined lock.now observer observer r.0) }
     ensures seen { IfOk result (λ r. HasSeen lock.now.opening.setup.0 looks r.0.seen r.1.sights) }
     ensures room { IfOk result (λ r. 0 < r.1.spare) }
 {
@@ -102,48 +150,113 @@ fn observe_on<R: Wait>(
     observe(rt, alloc, lock, seat, quanta, looks)
 }
 
-// Runs this many workers and the observer side by side. The observer is caller 2, and the workers but the first come after
-// it. The seat of worker 1 comes back, joined with all others.
+// Runs worker 1 and the observer side by side.
 fn with_observer<R: Threads + Wait + Sync, G: Gate + Sync>(
     rt: &R,
     alloc: Global,
     lock: &TurnLock<Book>,
     first: &mut Option<Seat>,
-    workers: u32,
+    observer: u32,
     quanta: u64,
     looks: u64,
     gate: &G,
-) -> Result<(Seat, Sights), OutOfMemory>
-    requires first { IsThere first.old (IsFirst lock.now 2) }
-    requires workers { (1 ≤ workers) × (workers ≤ MOST_WORKERS - 1) }
-    requires few { (quanta ≤ MOST_QUANTA) × (looks ≤ MOST_LOOKS) }
-    ensures seat { IfOk result (λ r. SpeaksFrom 2 lock.now r.0) }
-    ensures turns { IfOk result (λ r. r.0.turns ≤ observer_turns + worker_turns * MOST_WORKERS) }
-    ensures seen { IfOk result (λ r. HasSeen lock.now.opening.setup.0 looks r.0.seen r.1.sights) }
-    ensures room { IfOk result (λ r. 0 < r.1.spare) }
+) -> Result<Watched, OutOfMemory>
+    requires first { IsThere first.old (IsFirst lock.now observer) }
+    requires callers { (2 ≤ observer) × (observer ≤ MOST_WORKERS) }
+    requires looks { looks ≤ MOST_LOOKS }
+    requires run { lock.now.opening.setup.1 ≡ quanta }
+    requires few { quanta ≤ MOST_QUANTA }
+    ensures { IfOk result (IsWatched lock.now.opening.setup.0 lock.now observer observer looks) }
 {
     let Some(mut seat) = first.take() else {
         unreachable!()
     };
-    let other = seat_for(lock, &mut seat, 2)?;
+    let other = seat_for(lock, &mut seat, observer)?;
     let mut theirs = Some(other);
     let mut mine = Some(seat);
-    let (seen, seat) = join_mut(
+    let (seen, lead) = join_mut(
         rt,
         &mut || -> Result<(Seat, Sights), OutOfMemory>
-            requires { IsSync R.row × IsThere theirs (IsOther lock.now 2)
+            requires { IsSync R.row × IsThere theirs (IsOther lock.now observer)
                 × ((quanta ≤ MOST_QUANTA) × (looks ≤ MOST_LOOKS)) }
-            ensures { IfOk result (λ r. IsDone lock.entry.now 2 observer_turns r.0
+            ensures { IfOk result (λ r. IsJoined lock.entry.now observer observer r.0
                 × HasSeen lock.entry.now.opening.setup.0 looks r.0.seen r.1.sights × (0 < r.1.spare)) }
-        { observe_on(rt, alloc, lock, &mut theirs, quanta, looks) },
+        { observe_on(rt, alloc, lock, observer, &mut theirs, quanta, looks) },
         &mut || -> Seat
-            requires { (IsSync R.row × IsSync G.row) × IsThere mine (IsFirst lock.now 3)
-                × ((1 ≤ workers) × (workers ≤ MOST_WORKERS - 1)) }
-            ensures { SpeaksFrom 3 lock.entry.now result × (result.turns ≤ worker_turns * MOST_WORKERS) }
-        { work_all(rt, alloc, lock, &mut mine, 3, workers + 1, gate) },
+            requires { (IsSync R.row × IsSync G.row) × IsThere mine (IsFirst lock.now (observer + 1))
+                × (lock.now.opening.setup.1 ≤ MOST_QUANTA) }
+            ensures { IsLead lock.entry.now observer result }
+        { lead_on(rt, alloc, lock, observer, &mut mine, gate) },
     );
     let (observer, sights) = seen?;
-    Ok((lock.join_seats(seat, observer), sights))
+    Ok(Watched {
+        lead,
+        observer,
+        sights,
+    })
+}
+
+// Runs worker 1, the workers from `caller` on, and the observer, whose number is the last.
+fn crew_from<R: Threads + Wait + Sync, G: Gate + Sync>(
+    rt: &R,
+    alloc: Global,
+    lock: &TurnLock<Book>,
+    first: &mut Option<Seat>,
+    caller: u32,
+    observer: u32,
+    quanta: u64,
+    looks: u64,
+    gate: &G,
+) -> Result<Watched, OutOfMemory>
+    requires first { IsThere first.old (IsFirst lock.now caller) }
+    requires callers { (2 ≤ caller) × (caller ≤ observer) × (observer ≤ MOST_WORKERS) }
+    requires looks { looks ≤ MOST_LOOKS }
+    requires run { lock.now.opening.setup.1 ≡ quanta }
+    requires few { quanta ≤ MOST_QUANTA }
+    ensures { IfOk result (IsWatched lock.now.opening.setup.0 lock.now caller observer looks) }
+{
+    if caller == observer {
+        return with_observer(rt, alloc, lock, first, observer, quanta, looks, gate);
+    }
+    let Some(mut seat) = first.take() else {
+        unreachable!()
+    };
+    let other = seat_for(lock, &mut seat, caller)?;
+    let mut theirs = Some(other);
+    let mut mine = Some(seat);
+    let (done, watched) = join_mut(
+        rt,
+        &mut || -> Seat
+            requires { (IsSync R.row × IsSync G.row) × IsThere theirs (IsOther lock.now caller)
+                × (lock.now.opening.setup.1 ≤ MOST_QUANTA) }
+            ensures { IsDone lock.entry.now caller result }
+        { work_on(rt, alloc, lock, caller, &mut theirs, gate) },
+        &mut || -> Result<Watched, OutOfMemory>
+            requires { (IsSync R.row × IsSync G.row) × IsThere mine (IsFirst lock.now (caller + 1))
+                × ((2 ≤ caller) × (caller < observer) × (observer ≤ MOST_WORKERS))
+                × ((looks ≤ MOST_LOOKS) × (lock.now.opening.setup.1 ≡ quanta) × (quanta ≤ MOST_QUANTA)) }
+            ensures { IfOk result
+                (IsWatched lock.entry.now.opening.setup.0 lock.entry.now (caller + 1) observer looks) }
+        {
+            crew_from(
+                rt,
+                alloc,
+                lock,
+                &mut mine,
+                caller + 1,
+                observer,
+                quanta,
+                looks,
+                gate,
+            )
+        },
+    );
+    let watched = watched?;
+    Ok(Watched {
+        lead: watched.lead,
+        observer: lock.join_seats(watched.observer, done),
+        sights: watched.sights,
+    })
 }
 
 // Commits one more quantum, where one is left.
@@ -214,22 +327,22 @@ fn see_end<R: Wait>(
     rt: &R,
     alloc: Global,
     lock: TurnLock<Book>,
-    seat: Seat,
+    observer: u32,
     looks: u64,
-    sights: Sights,
+    watched: Watched,
 ) -> Result<(Sights, Book), OutOfMemory>
-    requires seat { SpeaksFrom 2 lock seat }
-    requires turns { seat.turns ≤ observer_turns + worker_turns * MOST_WORKERS }
-    requires seen { HasSeen lock.opening.setup.0 looks seat.seen sights.sights }
-    requires room { 0 < sights.spare }
+    requires callers { (2 ≤ observer) × (observer ≤ MOST_WORKERS) }
+    requires watched { IsWatched lock.opening.setup.0 lock 2 observer looks watched }
+    requires few { lock.opening.setup.1 ≤ MOST_QUANTA }
     ensures sights { IfOk result (λ r. AreSights lock.opening.setup.0 lock.opening.setup.1 looks r.0.sights) }
     ensures book { IfOk result (λ r. world_of r.1 ≡ serial lock.opening.setup.0 lock.opening.setup.1) }
 {
-    let seat = end_run(rt, alloc, &lock, seat)?;
+    let lead = end_run(rt, alloc, &lock, watched.lead)?;
+    let seat = lock.join_seats(watched.observer, lead);
     let (seat, sight) = look(rt, alloc, &lock, seat);
     let book = lock.close(seat);
     let _committed = book.committed(); // for its contract alone
-    let mut sights = sights;
+    let mut sights = watched.sights;
     sights.add(sight?);
     Ok((sights, book))
 }
@@ -266,7 +379,17 @@ pub fn watch<R: Threads + Wait + Sync, G: Gate + Sync>(
         return Err(AllocError);
     };
     let mut first = Some(first);
-    let (seat, sights) = with_observer(rt, alloc, &lock, &mut first, workers, quanta, looks, gate)?;
-    let (sights, book) = see_end(rt, alloc, lock, seat, looks, sights)?;
+    let watched = crew_from(
+        rt,
+        alloc,
+        &lock,
+        &mut first,
+        2,
+        workers + 1,
+        quanta,
+        looks,
+        gate,
+    )?;
+    let (sights, book) = see_end(rt, alloc, lock, workers + 1, looks, watched)?;
     told(alloc, &sights, &book)
 }

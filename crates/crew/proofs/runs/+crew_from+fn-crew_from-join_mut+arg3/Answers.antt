@@ -1,6 +1,6 @@
-use Rattle.std.proofs.Common.{rules, refl, sym, ap, subst, arith, ◌+◌, ◌*◌}
+use Rattle.std.proofs.Common.{rules, refl, sym, subst, arith, ◌+◌, ◌*◌}
 use Rattle.turn_lock.specs.Seat.{SeatFields}
-use Rattle.crew.specs.Works.{IsDone, IsFirst, SpeaksFrom, worker_turns}
+use Rattle.crew.specs.Works.{IsFirst, IsOther, SpeaksFrom}
 use Rattle.crew.proofs.Speaking.{first_speaks, joined_speaks, that_one}
 use Rattle.crew.proofs.runs.+crew_from+fn-crew_from-join_mut+arg3.Goals as goal
 
@@ -11,17 +11,11 @@ returns-then-caller-workers-clause-seat g t c =
     (omega (arith, c.requires.callers.0)) first
     c.work_with.ensures.worked
 
-pub returns-then-caller-workers-clause-turns : goal.returns-then-caller-workers-clause-turns
-returns-then-caller-workers-clause-turns g t c =
-    let first = that_one (IsFirst c.args.crew.now.lock.now c.args.caller) c.args.first.now c.in-Some.seat c.requires.seat (search rules) in
-    let worked = c.work_with.ensures.worked in
-    omega (arith, c.requires.callers.1, c.requires.callers.2, first.turns, worked.turns, c.work_with.ensures.few)
-
 pub returns-clause-seat : goal.returns-clause-seat
 returns-clause-seat g t c =
     let led : SpeaksFrom (c.args.caller + 1) c.args.crew.now.lock.now c.join_mut-other.result.1.seat = search rules in
-    let other : IsDone c.args.crew.now.lock.now c.args.caller worker_turns c.join_mut-other.result.0 = search rules in
-    joined_speaks c.args.crew.now.lock.now c.args.caller worker_turns c.join_mut-other.result.1.seat c.join_mut-other.result.0 c.join_seats.result led other
+    let other : IsOther c.args.crew.now.lock.now c.args.caller (record c.join_mut-other.result.0 { turns = 0 }) = search rules in
+    joined_speaks c.args.crew.now.lock.now c.args.caller c.join_mut-other.result.1.seat c.join_mut-other.result.0 c.join_seats.result led other
     c.join_seats.ensures.lock c.join_seats.ensures.last c.join_seats.ensures.own
 
 pub returns-in_default-seat_for-clause-seat : goal.returns-in_default-seat_for-clause-seat
@@ -31,13 +25,6 @@ returns-in_default-seat_for-clause-seat g t c =
     first_speaks c.args.crew.now.lock.now c.args.caller (2 * c.args.crew.now.lock.now.opening.setup.1 + 2) c.seat_for.new.first
     c.work_with-in_default-seat_for.result.seat
     (omega (arith, c.requires.callers.0)) same c.work_with-in_default-seat_for.ensures.worked
-
-pub returns-in_default-seat_for-clause-turns : goal.returns-in_default-seat_for-clause-turns
-returns-in_default-seat_for-clause-turns g t c =
-    let first = that_one (IsFirst c.args.crew.now.lock.now c.args.caller) c.args.first.now c.in-Some.seat c.requires.seat (search rules) in
-    let same = ap (λ (s : SeatFields). s.turns) c.in_default-seat_for.ensures.refused in
-    let worked = c.work_with-in_default-seat_for.ensures.worked in
-    omega (arith, c.requires.callers.1, c.requires.callers.2, first.turns, same, worked.turns, c.work_with-in_default-seat_for.ensures.few)
 
 pub join_mut-other-requires-after_bounds : goal.join_mut-other-requires-after_bounds
 join_mut-other-requires-after_bounds g t c κs within =

@@ -11,8 +11,8 @@ use Rattle.soup_watch.specs.Text.{sights_text}
 use Rattle.soup_watch.specs.Watching.{AreSights, IsWatchText}
 use Rattle.soup_watch.proofs.watching.watch.Goals as goal
 
-pub with_observer-requires-clause-first : goal.with_observer-requires-clause-first
-with_observer-requires-clause-first g c κs within = first_is c.in-Ok.lock c.in-Ok.first c.in-Ok.ensures.seat
+pub crew_from-requires-clause-first : goal.crew_from-requires-clause-first
+crew_from-requires-clause-first g c κs within = first_is c.in-Ok.lock c.in-Ok.first c.in-Ok.ensures.seat
 
 pub returns : goal.returns
 returns g c =
