@@ -113,7 +113,8 @@ pub(crate) fn run<R: Threads + Wait + Sync, G: Gate + Sync, D: Desk>(
         (IsDoneFor (Task.Run plan.setup plan.quanta plan.workers) (D.state desk.old) (D.state desk.new)) }
     ensures stopped { IfErr result
         (IsStoppedFor (Task.Run plan.setup plan.quanta plan.workers) (D.state desk.old) (D.state desk.new)) }
-    ensures moments { HasMomentsFor (Task.Run plan.setup plan.quanta plan.workers) (D.state desk.old) (D.state desk.new) }
+    ensures moments { HasMomentsFor (Task.Run plan.setup plan.quanta plan.workers)
+        (D.state desk.old) (D.state desk.new) }
     ensures counts { CountsStops result (D.state desk.new) }
 {
     let bank = attach(alloc, desk, &plan.setup)?;
