@@ -14,6 +14,7 @@ mod hand;
 mod handing;
 mod lead;
 mod runs;
+mod seats;
 mod shelf;
 mod trial;
 mod turns;
@@ -21,6 +22,7 @@ mod worker;
 
 pub use gate::{FreeGate, Gate};
 pub use hand::{Hand, Next};
-pub use runs::{Ran, run_crew, seat_for};
+pub use runs::{Ran, run_crew};
+pub use seats::{seats_for, work_all};
 pub use trial::{number_of_drawers, takes_jobs};
 pub use worker::work;

@@ -103,6 +103,7 @@ pub(crate) fn work_with<R: Wait, G: Gate, E: Errand>(
     requires room { seat.turns < 2 ^ 39 }
     requires ready { E.is_ready crew.now.lock.now.opening.setup errand.old }
     ensures worked { HasWorked (2 * crew.now.lock.now.opening.setup.1 + 2) seat result.seat }
+    ensures few { crew.now.lock.now.opening.setup.1 ≤ MOST_QUANTA }
     ensures went { E.went result.outcome.next errand.old errand.new }
     ensures done { IsTrue result.outcome.is_loaded
         → OnGo result.outcome.next (E.has_done result.seat.seen errand.new) }

@@ -1,14 +1,14 @@
 //! A run that an observer watches.
 
-ghost use Rattle.std.specs.Prelude.{◌-◌, ◌≡◌, ◌+◌, ◌++◌, ◌<◌, ◌≤◌, ◌^◌, IfOk, OnOk, min};
+ghost use Rattle.std.specs.Prelude.{◌-◌, ◌≡◌, ◌+◌, ◌++◌, ◌<◌, ◌≤◌, ◌^◌, All, IfOk, IfSome, OnOk, length, min};
 ghost use Rattle.std.specs.Thread.{IsSync};
 ghost use Rattle.tierra_model.specs.declared.limits.TheConstants.{MOST_LOOKS, MOST_QUANTA, MOST_WORKERS};
 ghost use Rattle.tierra_model.specs.Serial.{serial};
 ghost use Rattle.commit_book.specs.Book.{world_of};
 ghost use Rattle.commit_book.specs.Giving.{MayGive};
-ghost use Rattle.crew.specs.Works.{HasWorked, IsFirst, IsOther, IsThere};
+ghost use Rattle.crew.specs.Works.{AreFrom, HasJoined, HasWorked, IsFirst, IsOther, IsThere, IsUnused};
 ghost use Rattle.report_text.specs.Report.{report};
-ghost use Rattle.soup_watch.specs.Seats.{HasSeen, IsDone, IsJoined, IsLead, IsWatched, observer_turns};
+ghost use Rattle.soup_watch.specs.Seats.{HasLooked, HasSeen, IsWatched, observer_turns};
 ghost use Rattle.soup_watch.specs.Text.{sights_text};
 ghost use Rattle.soup_watch.specs.Watching.{AreSights, IsWatchText};
 
@@ -17,7 +17,7 @@ use crate::sights::Sights;
 use crate::text::sights_text;
 use crate::waiting::wait_until;
 use commit_book::{Advanced, Book};
-use crew::{Gate, seat_for, work};
+use crew::{Gate, seats_for, work_all};
 use report_text::report;
 use std::alloc::{AllocError, Global};
 use std::marker::Brand;
@@ -28,51 +28,13 @@ use step_count::Steps;
 use tierra_model::{OutOfMemory, Setup, Text};
 use turn_lock::{Seat, TurnLock};
 
-/// What the workers and their observer leave: the seat of worker 1, the seat of the observer joined with those of the
-/// other workers, and what was seen.
+/// What the workers and their observer leave: the seat of worker 1, joined with those of the other workers, the seat of
+/// the observer, and what was seen.
 #[derive(Drop)]
 pub(crate) struct Watched {
     lead: Seat,
     observer: Seat,
     sights: Sights,
-}
-
-// Takes a worker's seat, and works.
-fn work_on<R: Wait, G: Gate>(
-    rt: &R,
-    alloc: Global,
-    lock: &TurnLock<Book>,
-    caller: u32,
-    seat: &mut Option<Seat>,
-    gate: &G,
-) -> Seat
-    requires seat { IsThere seat.old (IsOther lock.now caller) }
-    requires few { lock.now.opening.setup.1 ≤ MOST_QUANTA }
-    ensures { IsDone lock.now caller result }
-{
-    let Some(seat) = seat.take() else {
-        unreachable!()
-    };
-    work(rt, alloc, lock, seat, gate)
-}
-
-// Takes the seat of worker 1, from which the observer's was split off, and works.
-fn lead_on<R: Wait, G: Gate>(
-    rt: &R,
-    alloc: Global,
-    lock: &TurnLock<Book>,
-    observer: u32,
-    seat: &mut Option<Seat>,
-    gate: &G,
-) -> Seat
-    requires seat { IsThere seat.old (IsFirst lock.now (observer + 1)) }
-    requires few { lock.now.opening.setup.1 ≤ MOST_QUANTA }
-    ensures { IsLead lock.now observer result }
-{
-    let Some(seat) = seat.take() else {
-        unreachable!()
-    };
-    work(rt, alloc, lock, seat, gate)
 }
 
 // Waits until this many quanta are committed, and looks.
@@ -140,7 +102,7 @@ fn observe_on<R: Wait>(
 ) -> Result<(Seat, Sights), OutOfMemory>
     requires seat { IsThere seat.old (IsOther lock.now observer) }
     requires few { (quanta ≤ MOST_QUANTA) × (looks ≤ MOST_LOOKS) }
-    ensures joined { IfOk result (λ r. IsJoined lock.now observer observer r.0) }
+    ensures done { IfOk result (λ r. HasLooked lock.now observer r.0) }
     ensures seen { IfOk result (λ r. HasSeen lock.now.opening.setup.0 looks r.0.seen r.1.sights) }
     ensures room { IfOk result (λ r. 0 < r.1.spare) }
 {
@@ -150,112 +112,49 @@ fn observe_on<R: Wait>(
     observe(rt, alloc, lock, seat, quanta, looks)
 }
 
-// Runs worker 1 and the observer side by side.
+// Runs the workers and their observer side by side. The observer is the last of the others.
 fn with_observer<R: Threads + Wait + Sync, G: Gate + Sync>(
     rt: &R,
     alloc: Global,
     lock: &TurnLock<Book>,
-    first: &mut Option<Seat>,
-    observer: u32,
+    first: Seat,
+    others: Vec<Seat>,
     quanta: u64,
     looks: u64,
     gate: &G,
 ) -> Result<Watched, OutOfMemory>
-    requires first { IsThere first.old (IsFirst lock.now observer) }
-    requires callers { (2 ≤ observer) × (observer ≤ MOST_WORKERS) }
-    requires looks { looks ≤ MOST_LOOKS }
-    requires run { lock.now.opening.setup.1 ≡ quanta }
-    requires few { quanta ≤ MOST_QUANTA }
-    ensures { IfOk result (IsWatched lock.now.opening.setup.0 lock.now observer observer looks) }
+    requires first { IsFirst lock.now (length others.items + 2) first }
+    requires others { AreFrom lock.now 2 others.items }
+    requires callers { (1 ≤ length others.items) × (length others.items ≤ MOST_WORKERS - 1) }
+    requires few { (quanta ≤ MOST_QUANTA) × (looks ≤ MOST_LOOKS) }
+    ensures { IfOk result (IsWatched lock.now.opening.setup.0 lock.now (length others.items + 1) looks) }
 {
-    let Some(mut seat) = first.take() else {
+    let mut others = others;
+    let Some(last) = others.pop() else {
         unreachable!()
     };
-    let other = seat_for(lock, &mut seat, observer)?;
-    let mut theirs = Some(other);
-    let mut mine = Some(seat);
+    let observer = last.caller();
+    let mut theirs = Some(last);
+    let mut mine = Some(first);
     let (seen, lead) = join_mut(
         rt,
         &mut || -> Result<(Seat, Sights), OutOfMemory>
             requires { IsSync R.row × IsThere theirs (IsOther lock.now observer)
                 × ((quanta ≤ MOST_QUANTA) × (looks ≤ MOST_LOOKS)) }
-            ensures { IfOk result (λ r. IsJoined lock.entry.now observer observer r.0
+            ensures { IfOk result (λ r. HasLooked lock.entry.now observer r.0
                 × HasSeen lock.entry.now.opening.setup.0 looks r.0.seen r.1.sights × (0 < r.1.spare)) }
         { observe_on(rt, alloc, lock, observer, &mut theirs, quanta, looks) },
         &mut || -> Seat
-            requires { (IsSync R.row × IsSync G.row) × IsThere mine (IsFirst lock.now (observer + 1))
-                × (lock.now.opening.setup.1 ≤ MOST_QUANTA) }
-            ensures { IsLead lock.entry.now observer result }
-        { lead_on(rt, alloc, lock, observer, &mut mine, gate) },
+            requires { (IsSync R.row × IsSync G.row) × IsThere mine (IsUnused lock.now)
+                × All (IsUnused lock.now) others.items }
+            ensures { IfSome mine.entry (λ s. HasJoined others.entry.items s result) }
+        { work_all(rt, alloc, lock, &mut mine, &mut others, gate) },
     );
     let (observer, sights) = seen?;
     Ok(Watched {
         lead,
         observer,
         sights,
-    })
-}
-
-// Runs worker 1, the workers from `caller` on, and the observer, whose number is the last.
-fn crew_from<R: Threads + Wait + Sync, G: Gate + Sync>(
-    rt: &R,
-    alloc: Global,
-    lock: &TurnLock<Book>,
-    first: &mut Option<Seat>,
-    caller: u32,
-    observer: u32,
-    quanta: u64,
-    looks: u64,
-    gate: &G,
-) -> Result<Watched, OutOfMemory>
-    requires first { IsThere first.old (IsFirst lock.now caller) }
-    requires callers { (2 ≤ caller) × (caller ≤ observer) × (observer ≤ MOST_WORKERS) }
-    requires looks { looks ≤ MOST_LOOKS }
-    requires run { lock.now.opening.setup.1 ≡ quanta }
-    requires few { quanta ≤ MOST_QUANTA }
-    ensures { IfOk result (IsWatched lock.now.opening.setup.0 lock.now caller observer looks) }
-{
-    if caller == observer {
-        return with_observer(rt, alloc, lock, first, observer, quanta, looks, gate);
-    }
-    let Some(mut seat) = first.take() else {
-        unreachable!()
-    };
-    let other = seat_for(lock, &mut seat, caller)?;
-    let mut theirs = Some(other);
-    let mut mine = Some(seat);
-    let (done, watched) = join_mut(
-        rt,
-        &mut || -> Seat
-            requires { (IsSync R.row × IsSync G.row) × IsThere theirs (IsOther lock.now caller)
-                × (lock.now.opening.setup.1 ≤ MOST_QUANTA) }
-            ensures { IsDone lock.entry.now caller result }
-        { work_on(rt, alloc, lock, caller, &mut theirs, gate) },
-        &mut || -> Result<Watched, OutOfMemory>
-            requires { (IsSync R.row × IsSync G.row) × IsThere mine (IsFirst lock.now (caller + 1))
-                × ((2 ≤ caller) × (caller < observer) × (observer ≤ MOST_WORKERS))
-                × ((looks ≤ MOST_LOOKS) × (lock.now.opening.setup.1 ≡ quanta) × (quanta ≤ MOST_QUANTA)) }
-            ensures { IfOk result
-                (IsWatched lock.entry.now.opening.setup.0 lock.entry.now (caller + 1) observer looks) }
-        {
-            crew_from(
-                rt,
-                alloc,
-                lock,
-                &mut mine,
-                caller + 1,
-                observer,
-                quanta,
-                looks,
-                gate,
-            )
-        },
-    );
-    let watched = watched?;
-    Ok(Watched {
-        lead: watched.lead,
-        observer: lock.join_seats(watched.observer, done),
-        sights: watched.sights,
     })
 }
 
@@ -332,7 +231,7 @@ fn see_end<R: Wait>(
     watched: Watched,
 ) -> Result<(Sights, Book), OutOfMemory>
     requires callers { (2 ≤ observer) × (observer ≤ MOST_WORKERS) }
-    requires watched { IsWatched lock.opening.setup.0 lock 2 observer looks watched }
+    requires watched { IsWatched lock.opening.setup.0 lock observer looks watched }
     requires few { lock.opening.setup.1 ≤ MOST_QUANTA }
     ensures sights { IfOk result (λ r. AreSights lock.opening.setup.0 lock.opening.setup.1 looks r.0.sights) }
     ensures book { IfOk result (λ r. world_of r.1 ≡ serial lock.opening.setup.0 lock.opening.setup.1) }
@@ -375,21 +274,14 @@ pub fn watch<R: Threads + Wait + Sync, G: Gate + Sync>(
     ensures { IfOk result (IsWatchText setup quanta looks) }
 {
     let book = Book::begin(alloc, setup, quanta, 2 * workers)?;
-    let Ok((lock, first)) = TurnLock::of(alloc, book) else {
+    let Ok((lock, mut first)) = TurnLock::of(alloc, book) else {
         return Err(AllocError);
     };
-    let mut first = Some(first);
-    let watched = crew_from(
-        rt,
-        alloc,
-        &lock,
-        &mut first,
-        2,
-        workers + 1,
-        quanta,
-        looks,
-        gate,
-    )?;
+    let others = seats_for(alloc, &lock, &mut first, workers + 1);
+    if others.len() < workers as usize {
+        return Err(AllocError);
+    }
+    let watched = with_observer(rt, alloc, &lock, first, others, quanta, looks, gate)?;
     let (sights, book) = see_end(rt, alloc, lock, workers + 1, looks, watched)?;
     told(alloc, &sights, &book)
 }

@@ -1,15 +1,23 @@
-use Rattle.std.proofs.Common.{rules, ◌∙◌, sym, ap, arith, ◌≤◌}
+use Rattle.std.proofs.Common.{rules, refl, ◌∙◌, sym, ap, arith, ◌≤◌}
 use Rattle.turn_lock.specs.declared.view.Summary.{Summary}
 use Rattle.crew.proofs.Banks.{earlier-within}
 use Rattle.crew.proofs.HasGroups.{has_at_first}
-use Rattle.crew.proofs.Speaking.{first_is}
+use Rattle.crew.proofs.Speaking.{speaks_all}
 use Rattle.crew.proofs.runs.run_crew.Goals as goal
 
-pub crew_from-worked-requires-clause-seat : goal.crew_from-worked-requires-clause-seat
-crew_from-worked-requires-clause-seat g c κs within = first_is c.in-Ok.lock c.in-Ok.first c.in-Ok.ensures.seat
+pub work_together-worked-requires-clause-first : goal.work_together-worked-requires-clause-first
+work_together-worked-requires-clause-first g c κs within =
+    let first = c.seats_for-others.ensures.first in
+    (c.seats_for-others.new.first, refl, record { lock = first.lock; turns = first.turns })
 
-pub crew_from-worked-requires-clause-ready : goal.crew_from-worked-requires-clause-ready
-crew_from-worked-requires-clause-ready g c κs within =
+pub close-book-requires-clause-all : goal.close-book-requires-clause-all
+close-book-requires-clause-all g c =
+    let split = c.seats_for-others.ensures in
+    speaks_all c.in-Ok.lock c.seats_for-others.result.items c.seats_for-others.new.first c.work_together-worked.result.seat split.first split.others
+    c.work_together-worked.ensures.seat
+
+pub work_together-worked-requires-clause-ready : goal.work_together-worked-requires-clause-ready
+work_together-worked-requires-clause-ready g c κs within =
     let book = c.args.book in
     let hand = c.args.hand.now in
     let setup = c.requires.setup in

@@ -1,4 +1,4 @@
-use Rattle.std.proofs.Common.{◌≡◌, ◌++◌, ◌∙◌, ℕ, ap, subst}
+use Rattle.std.proofs.Common.{◌≡◌, ◌++◌, ◌∙◌, ◌+◌, ℕ, ap, arith, length, subst}
 use Rattle.std.proofs.lemmas.Result.{IfOk-weaker}
 use Rattle.report_text.specs.Report.{report}
 use Rattle.tierra_model.specs.Serial.{serial}
@@ -6,13 +6,16 @@ use Rattle.tierra_model.specs.Setups.{SetupFields}
 use Rattle.tierra_model.specs.World.{World}
 use Rattle.turn_lock.specs.declared.view.Summary.{Summary}
 use Rattle.commit_book.specs.Book.{BookFields, world_of}
-use Rattle.crew.proofs.Speaking.{first_is}
+use Rattle.soup_watch.specs.Seats.{IsWatched}
 use Rattle.soup_watch.specs.Text.{sights_text}
 use Rattle.soup_watch.specs.Watching.{AreSights, IsWatchText}
 use Rattle.soup_watch.proofs.watching.watch.Goals as goal
 
-pub crew_from-requires-clause-first : goal.crew_from-requires-clause-first
-crew_from-requires-clause-first g c κs within = first_is c.in-Ok.lock c.in-Ok.first c.in-Ok.ensures.seat
+pub see_end-requires-clause-watched : goal.see_end-requires-clause-watched
+see_end-requires-clause-watched g c =
+    let number : length c.seats_for-others.result.items + 1 ≡ c.args.workers + 1 =
+    omega (arith, c.seats_for-others.ensures.few, c.len.ensures, c.if-len-workers.false) in
+    subst (λ (k : ℕ). IsWatched c.in-Ok.lock.opening.setup.0 c.in-Ok.lock k c.args.looks c.in_ok-watched.watched) number c.in_ok-watched.ensures
 
 pub returns : goal.returns
 returns g c =

@@ -2,7 +2,7 @@ use Rattle.std.proofs.Common.{arith, ◌+◌}
 use Rattle.std.proofs.lemmas.Result.{IfOk-weaker, on_ok_weaker}
 use Rattle.crew.specs.Works.{IsFirst, IsOther}
 use Rattle.crew.proofs.Speaking.{first_next, other_new}
-use Rattle.crew.proofs.runs.seat_for.Goals as goal
+use Rattle.crew.proofs.seats.seat_for.Goals as goal
 
 pub returns : goal.returns
 returns c =
