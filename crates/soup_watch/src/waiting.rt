@@ -2,6 +2,7 @@
 
 ghost use Rattle.std.specs.Prelude.{◌≡◌, ◌+◌, ◌<◌, ◌^◌};
 ghost use Rattle.crew.specs.Works.{HasWorked};
+ghost use Rattle.soup_watch.specs.declared.waiting.TheConstants.{MOST_TURNS};
 
 use commit_book::Book;
 use std::hint::spin_loop;
@@ -42,7 +43,7 @@ pub(crate) fn wait_until<R: Wait>(
 ) -> Seat
     requires lock { seat.lock ≡ lock.now }
     requires room { seat.turns < 2 ^ 39 }
-    ensures { HasWorked 500000000 seat result }
+    ensures { HasWorked MOST_TURNS seat result }
 {
     let mut seat = seat;
     let mut last = 0;

@@ -8,6 +8,7 @@ ghost use Rattle.commit_book.specs.Book.{world_of};
 ghost use Rattle.commit_book.specs.Giving.{MayGive};
 ghost use Rattle.crew.specs.Works.{AreFrom, HasJoined, HasWorked, IsFirst, IsOther, IsThere, IsUnused};
 ghost use Rattle.report_text.specs.Report.{report};
+ghost use Rattle.soup_watch.specs.declared.waiting.TheConstants.{MOST_TURNS};
 ghost use Rattle.soup_watch.specs.Seats.{HasLooked, HasSeen, IsWatched, observer_turns};
 ghost use Rattle.soup_watch.specs.Text.{sights_text};
 ghost use Rattle.soup_watch.specs.Watching.{AreSights, IsWatchText};
@@ -52,7 +53,7 @@ fn look_next<R: Wait>(
     requires turns { seat.turns < 2 ^ 39 }
     requires room { 0 < sights.old.spare }
     requires seen { HasSeen lock.now.opening.setup.0 number seat.seen sights.old.sights }
-    ensures worked { IfOk result (HasWorked 500000001 seat) }
+    ensures worked { IfOk result (HasWorked (MOST_TURNS + 1) seat) }
     ensures seen { IfOk result (λ s. HasSeen lock.now.opening.setup.0 (number + 1) s.seen sights.new.sights) }
     ensures room { OnOk result (sights.old.spare ≡ sights.new.spare + 1) }
 {
