@@ -18,6 +18,16 @@ use turn_lock::{Seat, TurnLock};
 // A hundred cells, with one creature at cell 5.
 const ONE: &str = "soup_size = 100\n[[creature]]\nat = 5\ncode = 'inc_b mov_iab'\n";
 
+// What a claim gives: the quantum of a job and its creature's number, or why there is no job.
+fn claimed(alloc: Global, book: &mut Book) -> Result<(u64, u64), &'static str> {
+    match book.claim(alloc) {
+        Claim::Job(job) => Ok((job.quantum(), job.front().id)),
+        Claim::Full => Err("full"),
+        Claim::Stopped => Err("stopped"),
+        _ => Err("none"),
+    }
+}
+
 fn counted<R: Abort, L: Ledger>(rt: &R, alloc: Global, blank: Blank) -> Result<(), Fail>
     requires name { blank.name ≡ L.name }
     requires parts { blank.parts ≡ L.parts }
@@ -25,17 +35,15 @@ fn counted<R: Abort, L: Ledger>(rt: &R, alloc: Global, blank: Blank) -> Result<(
 {
     let mut steps = Steps::<L>::start(blank);
     let mut book = Book::begin(alloc, setup_of(alloc, ONE)?, 2, 4)?;
-    let Claim::Job(job) = book.claim(alloc) else {
-        panic!(rt; "no job")
-    };
-    assert_eq!(rt; (job.quantum(), job.front().id), (1, 1));
-    assert!(rt; matches!(book.claim(alloc), Claim::Full));
-    assert_eq!(rt; book.advance(alloc, 1, &mut steps), Advanced::Committed);
-    assert_eq!(rt; (book.committed(), book.quanta()), (1, 2));
-    assert_eq!(rt; book.history().len(), 1);
-    assert_eq!(rt; book.world().births(), 0);
+    let claims = [claimed(alloc, &mut book), claimed(alloc, &mut book)];
+    let advanced = book.advance(alloc, 1, &mut steps);
+    let counts = (book.committed(), book.quanta(), book.history().len(), book.world().births());
     book.stop();
-    assert!(rt; matches!(book.claim(alloc), Claim::Stopped));
+    let last = claimed(alloc, &mut book);
+    assert_eq!(rt;
+        (claims, advanced, counts, last),
+        ([Ok((1, 1)), Err("full")], Advanced::Committed, (1, 2, 1, 0), Err("stopped"))
+    );
     Ok(())
 }
 
