@@ -1,7 +1,7 @@
 //! A book hands out jobs, and is shared by a turn lock.
 
-ghost use Rattle.std.specs.Prelude.{◌≡◌, ◌^◌, ◌<◌, ℕ, IsSome};
-ghost use Rattle.turn_lock.specs.Seat.{own_of};
+ghost use Rattle.std.specs.Prelude.{◌≡◌, ◌^◌, ◌<◌, ℕ, Some, IsSome, IfOk};
+ghost use Rattle.turn_lock.specs.Seat.{own_of, first_seat, new_seat};
 
 use commit_book::{Advanced, Book, Claim};
 use quantum_run::{Finding, Job};
@@ -37,12 +37,22 @@ fn counted<R: Abort, L: Ledger>(rt: &R, alloc: Global, blank: Blank) -> Result<(
     let mut book = Book::begin(alloc, setup_of(alloc, ONE)?, 2, 4)?;
     let claims = [claimed(alloc, &mut book), claimed(alloc, &mut book)];
     let advanced = book.advance(alloc, 1, &mut steps);
-    let counts = (book.committed(), book.quanta(), book.history().len(), book.world().births());
+    let counts = (
+        book.committed(),
+        book.quanta(),
+        book.history().len(),
+        book.world().births(),
+    );
     book.stop();
     let last = claimed(alloc, &mut book);
     assert_eq!(rt;
         (claims, advanced, counts, last),
-        ([Ok((1, 1)), Err("full")], Advanced::Committed, (1, 2, 1, 0), Err("stopped"))
+        (
+            [Ok((1, 1)), Err("full")],
+            Advanced::Committed,
+            (1, 2, 1, 0),
+            Err("stopped")
+        )
     );
     Ok(())
 }
@@ -73,33 +83,45 @@ fn advance_once<R: Wait, L: Ledger>(
     seat
 }
 
-// Two callers advance the book once each, and the lock is closed.
-fn two_callers<R: Abort + Wait, L: Ledger>(rt: &R, alloc: Global, blank: Blank) -> Result<(), Fail>
+/// A lock over a book of the two creatures, which runs them for two quanta, and the seats of callers 1 and 2.
+pub(crate) fn shared_book(alloc: Global) -> Result<(TurnLock<Book>, Seat, Seat), Fail>
+    ensures first { IfOk result (λ r. r.1 ≡ record (first_seat r.0) { last_caller = Some 2 }) }
+    ensures second { IfOk result (λ r. r.2 ≡ new_seat (first_seat r.0) 2) }
+{
+    let book = Book::begin(alloc, setup_of(alloc, TWO)?, 2, 4)?;
+    let Ok((lock, mut first)) = TurnLock::of(alloc, book) else {
+        return Err(Fail::from("no room for a lock"));
+    };
+    let second = lock.split(&mut first, 2)?;
+    Ok((lock, first, second))
+}
+
+// Two callers advance the book once each, and the lock is closed: how many quanta callers 1 to 3 committed, by the seat
+// of both, and how many are committed in all.
+fn two_callers<R: Wait, L: Ledger>(
+    rt: &R,
+    alloc: Global,
+    blank: Blank,
+) -> Result<([Option<u64>; 3], u64), Fail>
     requires name { blank.name ≡ L.name }
     requires parts { blank.parts ≡ L.parts }
     requires some { 0 < L.parts }
 {
     let mut steps = Steps::<L>::start(blank);
-    let book = Book::begin(alloc, setup_of(alloc, TWO)?, 2, 4)?;
-    let Ok((lock, mut first)) = TurnLock::of(alloc, book) else {
-        panic!(rt; "no room for a lock")
-    };
-    let second = lock.split(&mut first, 2)?;
+    let (lock, first, second) = shared_book(alloc)?;
     let first = advance_once(rt, alloc, &lock, first, &mut steps);
     let second = advance_once(rt, alloc, &lock, second, &mut steps);
     let all = lock.join_seats(first, second);
-    assert_eq!(rt;
-        [all.own(1), all.own(2), all.own(3)],
-        [Some(1), Some(1), None]
-    );
+    let own = [all.own(1), all.own(2), all.own(3)];
     let book = lock.close(all);
-    assert_eq!(rt; book.committed(), 2);
-    Ok(())
+    Ok((own, book.committed()))
 }
 
 #[test]
 fn each_caller_advances_the_book_once(rt: HostRuntime) -> Result<(), Fail> {
-    two_callers::<_, Brand>(&rt, rt.alloc(), Blank::new(1))
+    let committed = two_callers::<_, Brand>(&rt, rt.alloc(), Blank::new(1))?;
+    assert_eq!(rt; committed, ([Some(1), Some(1), None], 2));
+    Ok(())
 }
 
 // Takes a turn, in which a finding is offered and a job claimed.
