@@ -3,6 +3,7 @@
 ghost use Rattle.std.specs.Prelude.{◌≡◌, ◌^◌, ◌+◌, ◌<◌, ◌≤◌, [], IfOk, IfSome, OnOk};
 ghost use Rattle.soup_watch.specs.Seeing.{last_of};
 
+use crate::book::shared_book;
 use crate::gates::{PlanGate, Until};
 use commit_book::Book;
 use crew::FreeGate;
@@ -16,9 +17,8 @@ use std::test::Fail;
 use std::thread::Threads;
 use step_count::Steps;
 use test_soups::{TWO, setup_of};
-use tierra_model::{Name, OutOfMemory, Text};
+use tierra_model::{Name, OutOfMemory};
 use turn_lock::{Seat, TurnLock};
-use world_core::World;
 
 /// Four genotypes; the first and the third die in quantum 2.
 const HALVED: &str = r#"
@@ -58,46 +58,38 @@ at = 30
 code = "inc_b"
 "#;
 
-fn seen(alloc: Global, world: &World) -> Result<Sight, OutOfMemory> {
-    sight_of(alloc, world)
+/// What is seen of the world after this many quanta of a soup file.
+fn seen(alloc: Global, file: &str, quanta: u16) -> Result<Sight, Fail> {
+    let world = run_serial(alloc, &setup_of(alloc, file)?, u64::from(quanta))?;
+    Ok(sight_of(alloc, &world)?)
 }
 
-/// The world after this many quanta of a soup file.
-fn world_after(alloc: Global, file: &str, quanta: u16) -> Result<World, Fail> {
-    Ok(run_serial(alloc, &setup_of(alloc, file)?, u64::from(quanta))?)
+/// Whether this text is told of the sights.
+fn is_told(alloc: Global, sights: &Sights, text: &str) -> Result<bool, OutOfMemory> {
+    Ok(sights_text(alloc, sights)?.items.as_slice() == text.as_bytes())
 }
 
-fn text_of(alloc: Global, sights: &Sights) -> Result<Text, OutOfMemory> {
-    sights_text(alloc, sights)
-}
-
-/// What is told of one sight.
-fn told_alone(alloc: Global, sight: Sight) -> Result<Text, OutOfMemory> {
+/// Whether this text is told of one sight alone.
+fn is_told_alone(alloc: Global, sight: Sight, text: &str) -> Result<bool, OutOfMemory> {
     let mut sights = Sights::new(alloc);
     sights.reserve(1)?;
     sights.add(sight);
-    text_of(alloc, &sights)
-}
-
-/// What is told of the world after this many quanta.
-fn told(alloc: Global, file: &str, quanta: u16) -> Result<Text, Fail> {
-    let world = world_after(alloc, file, quanta)?;
-    Ok(told_alone(alloc, seen(alloc, &world)?)?)
+    is_told(alloc, &sights, text)
 }
 
 #[test]
 fn the_living_are_counted(rt: HostRuntime) -> Result<(), Fail> {
-    let sight = seen(rt.alloc(), &world_after(rt.alloc(), TWO, 0)?)?;
-    assert_eq!(rt;
-        [sight.quanta, sight.births, sight.deaths, sight.living],
-        [0, 0, 0, 2]
-    );
+    let sight = seen(rt.alloc(), TWO, 0)?;
+    let numbers = [sight.quanta, sight.births, sight.deaths, sight.living];
     let counts = [2, 5].map(|size| Count {
         name: Name { size, rank: 0 },
         living: 1,
         total: 1,
     });
-    assert_eq!(rt; sight.counts.items.as_slice(), counts.as_slice());
+    assert_eq!(rt;
+        (numbers, sight.counts.items.as_slice()),
+        ([0, 0, 0, 2], counts.as_slice())
+    );
     Ok(())
 }
 
@@ -126,13 +118,10 @@ fn sights_are_told(rt: HostRuntime) -> Result<(), Fail> {
         ),
     ];
     for (file, quanta, text) in rows {
-        assert_eq!(rt;
-            told(rt.alloc(), file, quanta)?.items.as_slice(),
-            text.as_bytes()
-        );
+        let sight = seen(rt.alloc(), file, quanta)?;
+        assert!(rt; is_told_alone(rt.alloc(), sight, text)?, "{text}");
     }
-    let none = text_of(rt.alloc(), &Sights::new(rt.alloc()))?;
-    assert_eq!(rt; none.items.len(), 0);
+    assert!(rt; is_told(rt.alloc(), &Sights::new(rt.alloc()), "")?);
     Ok(())
 }
 
@@ -201,51 +190,49 @@ fn look_thrice<R: Wait, L: Ledger>(
 }
 
 // The seat of the observer at the end, and what it saw.
-fn watched<R: Wait, L: Ledger>(
-    rt: &R,
-    alloc: Global,
-    blank: Blank,
-) -> Result<Option<(Seat, Sights)>, Fail>
+fn watched<R: Wait, L: Ledger>(rt: &R, alloc: Global, blank: Blank) -> Result<(Seat, Sights), Fail>
     requires name { blank.name ≡ L.name }
     requires parts { blank.parts ≡ L.parts }
     requires some { 0 < L.parts }
 {
     let mut steps = Steps::<L>::start(blank);
-    let book = Book::begin(alloc, setup_of(alloc, TWO)?, 2, 4)?;
-    let Ok((lock, mut worker)) = TurnLock::of(alloc, book) else {
-        return Ok(None);
-    };
-    let observer = lock.split(&mut worker, 2)?;
     let mut sights = Sights::new(alloc);
     sights.reserve(3)?;
+    let (lock, worker, observer) = shared_book(alloc)?;
     let seat = look_thrice(rt, alloc, &lock, worker, observer, &mut sights, &mut steps)?;
-    Ok(Some((seat, sights)))
+    Ok((seat, sights))
+}
+
+// The seat's caller, how much it saw committed, its turns, and how much callers 1 to 3 committed by it.
+fn numbers_of(seat: &Seat) -> ((u32, u64, u64), [Option<u64>; 3]) {
+    let numbers = (seat.caller(), seat.seen(), seat.turns());
+    (numbers, [seat.own(1), seat.own(2), seat.own(3)])
 }
 
 #[test]
 fn an_observer_sees_what_is_committed(rt: HostRuntime) -> Result<(), Fail> {
-    let Some((seat, sights)) = watched::<_, Brand>(&rt, rt.alloc(), Blank::new(1))? else {
-        panic!(&rt; "no room for a lock")
-    };
-    assert_eq!(rt; (seat.caller(), seat.seen(), seat.turns()), (2, 2, 5));
-    assert_eq!(rt;
-        [seat.own(1), seat.own(2), seat.own(3)],
-        [Some(2), Some(0), None]
-    );
-    let text = text_of(rt.alloc(), &sights)?;
-    let lines = "sight quanta 0 births 0 deaths 0 living 2\n0002aaa 1 1\n0005aaa 1 1\n\
+    let (seat, sights) = watched::<_, Brand>(&rt, rt.alloc(), Blank::new(1))?;
+    assert_eq!(rt; numbers_of(&seat), ((2, 2, 5), [Some(2), Some(0), None]));
+    let text = "sight quanta 0 births 0 deaths 0 living 2\n0002aaa 1 1\n0005aaa 1 1\n\
         sight quanta 1 births 0 deaths 0 living 2\n0002aaa 1 1\n0005aaa 1 1\n\
         sight quanta 2 births 0 deaths 0 living 2\n0002aaa 1 1\n0005aaa 1 1\n";
-    assert_eq!(rt; text.items.as_slice(), lines.as_bytes());
+    assert!(rt; is_told(rt.alloc(), &sights, text)?);
     Ok(())
 }
 
-/// The text of a run of two quanta with three looks.
-fn watched_run<R: Threads + Wait + Sync>(rt: &R, alloc: Global, workers: u32) -> Result<Text, Fail>
+// Watches two quanta with three looks: into how many parts the word `sight` splits the text, and whether the text ends
+// so.
+fn watched_run<R: Threads + Wait + Sync>(
+    rt: &R,
+    alloc: Global,
+    workers: u32,
+    end: &str,
+) -> Result<(usize, bool), Fail>
     requires { (1 ≤ workers) × (workers ≤ 63) }
 {
-    let setup = setup_of(alloc, TWO)?;
-    Ok(watch(rt, alloc, &FreeGate, setup, 2, workers, 3)?)
+    let text = watch(rt, alloc, &FreeGate, setup_of(alloc, TWO)?, 2, workers, 3)?;
+    let text = str::from_utf8(&text.items)?;
+    Ok((text.split("sight").count(), text.ends_with(end)))
 }
 
 #[test]
@@ -254,10 +241,8 @@ fn a_watched_run_ends_in_its_report(rt: HostRuntime) -> Result<(), Fail> {
         quanta 2\nbirths 0\ndeaths 0\nliving 2\nfilled 7\n\
         front 1 ip 25 ax 0 bx 1 cx 0 dx 0 flag 0 errors 0\ngenotypes 2\nkept 0\n0002aaa 1 1\n0005aaa 1 1\n";
     for workers in [1u32, 2, 63] {
-        let text = watched_run(&rt, rt.alloc(), workers)?;
-        let text = str::from_utf8(&text.items)?;
-        assert_eq!(rt; text.split("sight").count(), 5, "{workers} workers");
-        assert!(rt; text.ends_with(end), "{workers} workers");
+        let told = watched_run(&rt, rt.alloc(), workers, end)?;
+        assert_eq!(rt; told, (5, true), "{workers} workers");
     }
     Ok(())
 }
@@ -265,17 +250,22 @@ fn a_watched_run_ends_in_its_report(rt: HostRuntime) -> Result<(), Fail> {
 // The worker of the third job is held for long.
 const HOLD_THIRD: &[(u64, Until)] = &[(3, Until::Yields(1_000_000))];
 
+// Watches four quanta with one worker and two looks. Whether a look sees the world after two quanta.
+fn sees_two_quanta<R: Threads + Wait + Sync>(
+    rt: &R,
+    alloc: Global,
+    gate: &PlanGate,
+) -> Result<bool, Fail> {
+    let text = watch(rt, alloc, gate, setup_of(alloc, TWO)?, 4, 1, 2)?;
+    Ok(str::from_utf8(&text.items)?.contains("\nsight quanta 2 "))
+}
+
 #[test]
 fn a_look_falls_between_two_commits(rt: HostRuntime) -> Result<(), Fail> {
     let gate = PlanGate::new(HOLD_THIRD);
-    let setup = setup_of(rt.alloc(), TWO)?;
-    let text = watch(&rt, rt.alloc(), &gate, setup, 4, 1, 2)?;
-    let text = str::from_utf8(&text.items)?;
-    assert!(rt; text.contains("\nsight quanta 2 "), "{text}");
+    assert!(rt; sees_two_quanta(&rt, rt.alloc(), &gate)?);
     // The look leaves the book to its worker.
-    for quantum in 1..=4usize {
-        let calls = (gate.before_by(quantum), gate.after_by(quantum));
-        assert_eq!(rt; calls, (1, 1), "quantum {quantum}");
-    }
+    let calls = [1, 2, 3, 4].map(|quantum| (gate.before_by(quantum), gate.after_by(quantum)));
+    assert_eq!(rt; calls, [(1, 1); 4]);
     Ok(())
 }
