@@ -8,6 +8,7 @@ use report_text::state_line;
 use schedule_drill::{Move, MoveList, Played, Tally, drill_text, moves_from, play};
 use serial_slicer::run_serial;
 use std::alloc::Global;
+use std::process::Abort;
 use std::test::Fail;
 use test_soups::{TWO, setup_of};
 use tierra_model::{Now, OutOfMemory, Text};
@@ -79,6 +80,13 @@ fn numbers_of(tally: &Tally) -> [u64; 8] {
     ]
 }
 
+/// What the moves leave of the two creatures: the numbers of the tally, and whether the world is the serial run's.
+fn left_by(alloc: Global, moves: &str) -> Result<([u64; 8], bool), Fail> {
+    let played = played(alloc, TWO, 2, moves)?;
+    let is_serial = is_serial(alloc, &played.book)?;
+    Ok((numbers_of(&played.tally), is_serial))
+}
+
 #[test]
 fn schedules_by_hand(rt: HostRuntime) -> Result<(), Fail> {
     // fresh, missing, stale, kept, twice, late, full and idle
@@ -93,9 +101,8 @@ fn schedules_by_hand(rt: HostRuntime) -> Result<(), Fail> {
         ("c1 a2 o1", [0, 2, 0, 0, 0, 1, 0, 0]),
     ];
     for (moves, numbers) in rows {
-        let played = played(rt.alloc(), TWO, 2, moves)?;
-        assert_eq!(rt; numbers_of(&played.tally), numbers, "{moves}");
-        assert!(rt; is_serial(rt.alloc(), &played.book)?, "{moves}");
+        let left = left_by(rt.alloc(), moves)?;
+        assert_eq!(rt; left, (numbers, true), "{moves}");
     }
     Ok(())
 }
@@ -180,11 +187,31 @@ fn committed(alloc: Global, file: &str, moves: &str) -> Result<Looks, Fail> {
     Ok(looks_of(alloc, played.book.world())?)
 }
 
-// The quantum is run by the book where there are no moves, and otherwise by hand 1.
+/// Commits the first quantum of a soup file, and compares what its world has then. The quantum is run by the book where
+/// there are no moves, and otherwise by hand 1.
+fn commit<R: Abort>(
+    rt: &R,
+    alloc: Global,
+    file: &str,
+    counts: [u64; 4],
+    cells: &[(u32, u8)],
+    queue: &[(u64, u64)],
+) -> Result<(), Fail> {
+    for moves in ["", "c1 o1"] {
+        let looks = committed(alloc, file, moves)?;
+        assert_eq!(rt;
+            (looks.counts, looks.cells.as_slice(), looks.queue.as_slice()),
+            (counts, cells, queue),
+            "{moves}"
+        );
+    }
+    Ok(())
+}
+
 #[test]
 fn a_quantum_of_each_event_is_committed(rt: HostRuntime) -> Result<(), Fail> {
-    let alloc = rt.alloc();
-    let want = [
+    let counts = [1, 1, 78, 14];
+    let cells = [
         (0, 4),
         (1, 2),
         (2, 3),
@@ -204,30 +231,15 @@ fn a_quantum_of_each_event_is_committed(rt: HostRuntime) -> Result<(), Fail> {
         (51, 1),
         (52, 1),
     ];
-    for moves in ["", "c1 o1"] {
-        let looks = committed(alloc, EACH_EVENT, moves)?;
-        assert_eq!(rt; looks.counts, [1, 1, 78, 14], "{moves}");
-        assert_eq!(rt; looks.cells.as_slice(), want.as_slice(), "{moves}");
-        assert_eq!(rt;
-            looks.queue.as_slice(),
-            [(1, 1), (3, 0)].as_slice(),
-            "{moves}"
-        );
-    }
-    Ok(())
+    let queue = [(1, 1), (3, 0)];
+    commit(&rt, rt.alloc(), EACH_EVENT, counts, &cells, &queue)
 }
 
 #[test]
 fn a_quantum_of_a_thousand_writes_is_committed(rt: HostRuntime) -> Result<(), Fail> {
-    let alloc = rt.alloc();
-    let want = [(0, 1), (1, 26), (2, 21), (4, 4)];
-    for moves in ["", "c1 o1"] {
-        let looks = committed(alloc, THOUSAND_WRITES, moves)?;
-        assert_eq!(rt; looks.counts, [0, 0, 5, 1], "{moves}");
-        assert_eq!(rt; looks.cells.as_slice(), want.as_slice(), "{moves}");
-        assert_eq!(rt; looks.queue.as_slice(), [(1, 0)].as_slice(), "{moves}");
-    }
-    Ok(())
+    let counts = [0, 0, 5, 1];
+    let cells = [(0, 1), (1, 26), (2, 21), (4, 4)];
+    commit(&rt, rt.alloc(), THOUSAND_WRITES, counts, &cells, &[(1, 0)])
 }
 
 /// The text of the drill of a number.
