@@ -2,9 +2,10 @@
 
 ghost use Rattle.std.specs.Prelude.{◌≡◌, ℕ, ◌+◌, ◌^◌, ◌<◌, ◌≤◌, All, Some, IsSome, IfOk, OnOk};
 ghost use Rattle.turn_lock.specs.Summary.{summary_of, Commits};
-ghost use Rattle.turn_lock.specs.Seat.{own_of, first_seat};
+ghost use Rattle.turn_lock.specs.Seat.{own_of, first_seat, SpeaksForAll};
 
 use std::alloc::Global;
+use std::process::Abort;
 use std::sync::Wait;
 use std::test::Fail;
 use std::thread::{Threads, map_vec, sleep};
@@ -132,32 +133,54 @@ fn hold_all<R: Clock + Threads + Wait + Sync>(
     map_vec(rt, seats, &|seat| hold(rt, lock, seat))
 }
 
+// What a seat says: its caller, how much it saw committed, and how much caller 2 committed by it.
+fn said_by(seat: &Seat) -> (u32, u64, Option<u64>) {
+    (seat.caller(), seat.seen(), seat.own(2))
+}
+
+// What the seats of callers 1 and 2 say after a turn of each, and the seat that both are joined into.
+type Joined = ([(u32, u64, Option<u64>); 2], Seat);
+
+fn take_turns<R: Wait>(rt: &R, lock: &TurnLock<Tally>, first: Seat, second: Seat) -> Joined
+    requires first { (first.lock ≡ lock.now) × (first.turns ≡ 0) × (first.last_caller ≡ Some 2) × IsSome (own_of first 1) }
+    requires second { (second.lock ≡ lock.now) × (second.turns ≡ 0) × IsSome (own_of second 2) }
+    ensures lock { result.1.lock ≡ lock.now }
+    ensures all { SpeaksForAll result.1 }
+{
+    let first = work(rt, lock, first, 1);
+    let second = work(rt, lock, second, 1);
+    let said = [said_by(&first), said_by(&second)];
+    let all = lock.join_seats(first, second);
+    (said, all)
+}
+
 #[test]
 fn each_caller_counts_its_own(rt: HostRuntime) -> Result<(), Fail> {
     let (lock, mut first) = TurnLock::of(rt.alloc(), Tally::new())?;
     let second = lock.split(&mut first, 2)?;
-    let first = work(&rt, &lock, first, 1);
-    let second = work(&rt, &lock, second, 1);
-    assert_eq!(rt; [first.caller(), second.caller()], [1, 2]);
-    assert_eq!(rt; [first.seen(), second.seen()], [1, 2]);
-    assert_eq!(rt; [first.own(2), second.own(2)], [None, Some(1)]);
-    let all = lock.join_seats(first, second);
-    assert_eq!(rt;
-        [all.own(1), all.own(2), all.own(3)],
-        [Some(1), Some(1), None]
-    );
-    assert_eq!(rt;
-        [all.own(0), all.own(65), all.own(u32::MAX)],
-        [None, None, None]
-    );
-    assert_eq!(rt; (all.caller(), all.turns(), all.seen()), (1, 2, 2));
+    let (said, all) = take_turns(&rt, &lock, first, second);
+    let joined = (all.caller(), all.turns(), all.seen());
+    let own = [all.own(1), all.own(2), all.own(3)];
+    let none = [all.own(0), all.own(65), all.own(u32::MAX)];
     let tally = lock.close(all);
-    assert_eq!(rt; tally.committed, 2);
+    let entries = [tally.entries[0], tally.entries[1], tally.entries[2]];
+    assert_eq!(rt; said, [(1, 1, None), (2, 2, Some(1))]);
     assert_eq!(rt;
-        [tally.entries[0], tally.entries[1], tally.entries[2]],
-        [1, 1, 0]
+        (joined, own, none),
+        ((1, 2, 2), [Some(1), Some(1), None], [None; 3])
     );
+    assert_eq!(rt; (tally.committed, entries), (2, [1, 1, 0]));
     Ok(())
+}
+
+// Each seat took this many turns, and counted each.
+fn compare_turns<R: Abort>(rt: &R, seats: &[Seat], times: u64) {
+    for seat in seats {
+        assert_eq!(rt;
+            (seat.turns(), seat.own(seat.caller())),
+            (times, Some(times))
+        );
+    }
 }
 
 #[test]
@@ -165,18 +188,15 @@ fn no_turn_of_a_thread_is_lost(rt: HostRuntime) -> Result<(), Fail> {
     let (lock, mut first) = TurnLock::of(rt.alloc(), Tally::new())?;
     let seats = split_all(rt.alloc(), &lock, &mut first, 9)?;
     let seats = work_all(&rt, &lock, seats, 300)?;
-    for seat in &seats {
-        assert_eq!(rt; seat.turns(), 300);
-        assert_eq!(rt; seat.own(seat.caller()), Some(300));
-    }
+    compare_turns(&rt, &seats, 300);
     let (turn, tally) = lock.take(&rt, first);
-    assert_eq!(rt; tally.committed, 2400);
-    assert_eq!(rt; tally.entries[0], 0);
-    for entries in &tally.entries[1..9] {
-        assert_eq!(rt; *entries, 300);
-    }
+    let (committed, entries) = (tally.committed, tally.entries);
     let first = lock.give(turn, tally);
-    assert_eq!(rt; (first.seen(), first.own(1)), (2400, Some(0)));
+    assert_eq!(rt;
+        (committed, entries[0], first.seen(), first.own(1)),
+        (2400, 0, 2400, Some(0))
+    );
+    assert_eq!(rt; &entries[1..9], [300; 8].as_slice());
     Ok(())
 }
 
@@ -185,12 +205,10 @@ fn who_waits_for_long_is_woken(rt: HostRuntime) -> Result<(), Fail> {
     let (lock, mut first) = TurnLock::of(rt.alloc(), Tally::new())?;
     let seats = split_all(rt.alloc(), &lock, &mut first, 5)?;
     let seats = hold_all(&rt, &lock, seats)?;
-    for seat in &seats {
-        assert_eq!(rt; (seat.turns(), seat.own(seat.caller())), (1, Some(1)));
-    }
+    compare_turns(&rt, &seats, 1);
     let (turn, tally) = lock.take(&rt, first);
-    assert_eq!(rt; tally.committed, 4);
+    let committed = tally.committed;
     let first = lock.give(turn, tally);
-    assert_eq!(rt; first.seen(), 4);
+    assert_eq!(rt; (committed, first.seen()), (4, 4));
     Ok(())
 }
