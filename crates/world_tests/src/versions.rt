@@ -3,53 +3,106 @@
 ghost use Rattle.std.specs.Prelude.{◌≡◌, ◌<◌};
 
 use soup_cells::{PAGE, Soup, Version};
+use std::alloc::Global;
 use std::test::Fail;
+use tierra_model::OutOfMemory;
 
 const VERSIONS: u32 = 12_000;
+
+// Makes the last cell of the first page and the first cell of the second ready, and then sets them.
+fn set_both(soup: &mut Soup, last: u8, first: u8) -> Result<(), OutOfMemory>
+    requires last { last < 32 }
+    requires first { first < 32 }
+{
+    if soup.row().len() > PAGE as usize {
+        soup.ready(PAGE - 1)?;
+        soup.ready(PAGE)?;
+        soup.set(PAGE - 1, last);
+        soup.set(PAGE, first);
+    }
+    Ok(())
+}
+
+// Sets a cell, if it is there.
+fn set_cell(soup: &mut Soup, at: u32, value: u8) -> Result<(), OutOfMemory>
+    requires { value < 32 }
+{
+    if (at as usize) < soup.row().len() {
+        soup.ready(at)?;
+        soup.set(at, value);
+    }
+    Ok(())
+}
+
+// Those two cells of a soup.
+fn both_now(soup: &Soup) -> Option<(u8, u8)> {
+    if soup.row().len() > PAGE as usize {
+        Some((soup.get(PAGE - 1), soup.get(PAGE)))
+    } else {
+        None
+    }
+}
+
+// And of a version.
+fn both_in(version: &Version) -> Option<(u8, u8)> {
+    if PAGE < version.size() {
+        Some((version.get(PAGE - 1), version.get(PAGE)))
+    } else {
+        None
+    }
+}
+
+// How many cells a version has, the last cell of its first page, and how long its third page is.
+fn pages_of(version: &Version) -> Option<(u32, u8, usize)> {
+    let size = version.size();
+    if 2 * PAGE < size {
+        Some((
+            size,
+            version.page(0)[PAGE as usize - 1],
+            version.page(2).len(),
+        ))
+    } else {
+        None
+    }
+}
 
 #[test]
 fn a_version_keeps_its_cells(rt: HostRuntime) -> Result<(), Fail> {
     let mut soup = Soup::new(rt.alloc(), 40_000)?;
     let first = soup.version()?;
-    soup.ready(PAGE - 1)?;
-    soup.ready(PAGE)?;
-    soup.set(PAGE - 1, 7);
-    soup.set(PAGE, 9);
+    set_both(&mut soup, 7, 9)?;
     let second = for_threads(soup.version()?);
-    soup.ready(PAGE - 1)?;
-    soup.set(PAGE - 1, 3);
-    assert_eq!(rt; (first.get(PAGE - 1), first.get(PAGE)), (0, 0));
-    assert_eq!(rt; (second.get(PAGE - 1), second.get(PAGE)), (7, 9));
-    assert_eq!(rt; (soup.get(PAGE - 1), soup.get(PAGE)), (3, 9));
+    set_cell(&mut soup, PAGE - 1, 3)?;
+    let cells = [both_in(&first), both_in(&second), both_now(&soup)];
     assert_eq!(rt;
-        (
-            second.size(),
-            second.page(0)[PAGE as usize - 1],
-            second.page(2).len()
-        ),
-        (40_000, 7, 7232)
+        (cells, pages_of(&second)),
+        ([(0, 0), (7, 9), (3, 9)].map(Some), Some((40_000, 7, 7232)))
     );
     Ok(())
 }
 
+// Makes a version before each of the sets.
+fn many_versions(alloc: Global) -> Result<Vec<Version>, OutOfMemory> {
+    let mut soup = Soup::new(alloc, 1_048_576)?;
+    let mut versions = Vec::new(alloc);
+    for k in 0..VERSIONS {
+        versions.push(soup.version()?)?;
+        set_cell(&mut soup, place(k), code(k))?;
+    }
+    Ok(versions)
+}
+
+// Whether version number k has what was set before it, and not what was set after it.
+fn is_before(version: &Version, k: u32) -> bool {
+    let before = if k < 6000 { 0 } else { code(k - 6000) };
+    (k == 0 || cell(version, place(k - 1)) == code(k - 1)) && cell(version, place(k)) == before
+}
+
 #[test]
 fn many_versions_are_kept(rt: HostRuntime) -> Result<(), Fail> {
-    let mut soup = Soup::new(rt.alloc(), 1_048_576)?;
-    let mut versions = Vec::new(rt.alloc());
-    for k in 0..VERSIONS {
-        let version = soup.version()?;
-        let at = place(k);
-        assert!(rt; at < version.size());
-        soup.ready(at)?;
-        soup.set(at, code(k));
-        versions.push(version)?;
-    }
+    let versions = many_versions(rt.alloc())?;
     for (k, version) in (0..VERSIONS).zip(versions.iter()) {
-        if k > 0 {
-            assert_eq!(rt; cell(version, place(k - 1)), code(k - 1));
-        }
-        let before = if k < 6000 { 0 } else { code(k - 6000) };
-        assert_eq!(rt; cell(version, place(k)), before);
+        assert!(rt; is_before(version, k));
     }
     Ok(())
 }
