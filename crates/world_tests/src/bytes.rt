@@ -191,42 +191,49 @@ fn told_changed(
     told_again(alloc, setup, &bytes)
 }
 
+/// A place, the byte that is put there, and whether the bytes are then still a world.
+const CHANGES: [(usize, u8, bool); 28] = [
+    (9, 31, true), // a cell
+    (9, 32, false), // no code
+    (111, 1, true), // the quanta
+    (119, 1, true), // the births
+    (119, 2, false), // as many as the next birth number
+    (127, 1, false), // the deaths, which the next birth number tells
+    (135, 3, false), // the next birth number
+    (139, 2, false), // more live than are told
+    (147, 2, false), // a birth number that the reaper queue has not
+    (151, 99, false), // a block past the end
+    (155, 0, false), // and one of no cell
+    (163, 5, true), // a daughter block before the creature's own
+    (163, 6, false), // and one that shares a cell with it
+    (191, 100, false), // an ip past the end
+    (195, 7, true), // a word of the stack
+    (235, 10, false), // its place on the stack
+    (244, 3, true), // the errors
+    (252, 1, false), // a genotype that there is not
+    (276, 2, false), // somebody else in the reaper queue
+    (290, 32, false), // no code of a genotype
+    (298, 1, false), // a genotype that is its own parent
+    (314, 0, false), // too few ever had what is saved
+    (314, 2, true), //
+    (322, 1, true), // a first effort
+    (330, 1, false), // an effort of no instruction
+    (354, 0, false), // bytes behind the last saving
+    (362, 1, false), // a genotype saved that there is not
+    (370, 1, false), // saved in a quantum to come
+];
+
+// (Where a test has the table itself, the prover takes it through each of the test's borrows.)
+fn changes() -> [(usize, u8, bool); 28] {
+    CHANGES
+}
+
 #[test]
 fn a_changed_byte_is_refused_or_told_again(rt: HostRuntime) -> Result<(), Fail> {
     let alloc = rt.alloc();
     let setup = setup_of(alloc, SMALL)?;
     let bytes = small_bytes(alloc)?;
-    let rows = [
-        (9, 31, true), // a cell
-        (9, 32, false), // no code
-        (111, 1, true), // the quanta
-        (119, 1, true), // the births
-        (119, 2, false), // as many as the next birth number
-        (127, 1, false), // the deaths, which the next birth number tells
-        (135, 3, false), // the next birth number
-        (139, 2, false), // more live than are told
-        (147, 2, false), // a birth number that the reaper queue has not
-        (151, 99, false), // a block past the end
-        (155, 0, false), // and one of no cell
-        (163, 5, true), // a daughter block before the creature's own
-        (163, 6, false), // and one that shares a cell with it
-        (191, 100, false), // an ip past the end
-        (195, 7, true), // a word of the stack
-        (235, 10, false), // its place on the stack
-        (244, 3, true), // the errors
-        (252, 1, false), // a genotype that there is not
-        (276, 2, false), // somebody else in the reaper queue
-        (290, 32, false), // no code of a genotype
-        (298, 1, false), // a genotype that is its own parent
-        (314, 0, false), // too few ever had what is saved
-        (314, 2, true), //
-        (322, 1, true), // a first effort
-        (330, 1, false), // an effort of no instruction
-        (354, 0, false), // bytes behind the last saving
-        (362, 1, false), // a genotype saved that there is not
-        (370, 1, false), // saved in a quantum to come
-    ];
-    for (place, value, sound) in rows {
+    for (place, value, sound) in changes() {
         let wanted = if sound { Some(true) } else { None };
         assert_eq!(rt; told_changed(alloc, &setup, &bytes, place, value)?, wanted);
     }
