@@ -71,49 +71,52 @@ fn ancestor_setup(alloc: Global) -> Result<Setup, Fail> {
     setup_of(alloc, &ancestor_file(alloc, "")?)
 }
 
+/// What the first and the second daughter of the ancestor cost.
+const FIRST: Option<Effort> = Some(Effort {
+    ran: 839,
+    moved: 80,
+});
+
+const SECOND: Option<Effort> = Some(Effort {
+    ran: 813,
+    moved: 80,
+});
+
+/// How many quanta the ancestor's soup runs, and the expected result.
+const BRED: [(u16, &str, (Option<Effort>, Option<Effort>)); 5] = [
+    (
+        33,
+        "births 0 deaths 0 living 1 filled 160 front 1 ip 61 ax 159 bx 79 cx 1 dx 4 flag 0 errors 0",
+        (None, None),
+    ),
+    (
+        34,
+        "births 1 deaths 0 living 2 filled 240 front 2 ip 80 ax 0 bx 0 cx 0 dx 0 flag 0 errors 0",
+        (FIRST, None),
+    ),
+    (
+        99,
+        "births 1 deaths 0 living 2 filled 320 front 1 ip 32 ax 160 bx 0 cx 80 dx 4 flag 0 errors 0",
+        (FIRST, None),
+    ),
+    (
+        100,
+        "births 2 deaths 0 living 3 filled 400 front 2 ip 141 ax 319 bx 159 cx 1 dx 4 flag 0 errors 0",
+        (FIRST, SECOND),
+    ),
+    (
+        101,
+        "births 3 deaths 0 living 4 filled 480 front 3 ip 160 ax 0 bx 0 cx 0 dx 0 flag 0 errors 0",
+        (FIRST, SECOND),
+    ),
+];
+
 #[test]
 fn the_ancestor_breeds(rt: HostRuntime) -> Result<(), Fail> {
-    let alloc = rt.alloc();
-    let setup = ancestor_setup(alloc)?;
-    let first = Some(Effort {
-        ran: 839,
-        moved: 80,
-    });
-    let second = Some(Effort {
-        ran: 813,
-        moved: 80,
-    });
-    let rows = [
-        (
-            33,
-            "births 0 deaths 0 living 1 filled 160 front 1 ip 61 ax 159 bx 79 cx 1 dx 4 flag 0 errors 0",
-            (None, None),
-        ),
-        (
-            34,
-            "births 1 deaths 0 living 2 filled 240 front 2 ip 80 ax 0 bx 0 cx 0 dx 0 flag 0 errors 0",
-            (first, None),
-        ),
-        (
-            99,
-            "births 1 deaths 0 living 2 filled 320 front 1 ip 32 ax 160 bx 0 cx 80 dx 4 flag 0 errors 0",
-            (first, None),
-        ),
-        (
-            100,
-            "births 2 deaths 0 living 3 filled 400 front 2 ip 141 ax 319 bx 159 cx 1 dx 4 flag 0 errors 0",
-            (first, second),
-        ),
-        (
-            101,
-            "births 3 deaths 0 living 4 filled 480 front 3 ip 160 ax 0 bx 0 cx 0 dx 0 flag 0 errors 0",
-            (first, second),
-        ),
-    ];
-    for (quanta, line, efforts) in rows {
-        let (told, spent) = bred(alloc, &setup, quanta)?;
-        assert_eq!(rt; told.as_str(), line);
-        assert!(rt; spent == efforts, "{quanta}");
+    let setup = ancestor_setup(rt.alloc())?;
+    for (quanta, line, efforts) in BRED {
+        let (told, spent) = bred(rt.alloc(), &setup, quanta)?;
+        assert_eq!(rt; (told.as_str(), spent), (line, efforts));
     }
     Ok(())
 }
@@ -244,14 +247,17 @@ const FIRST_DRAWS: [(&str, &str, &str, u64); 4] = [
     ),
 ];
 
+/// What the first quantum of a soup with a code at cell 0 leaves.
+fn first_quantum(alloc: Global, settings: &str, code: &str) -> Result<(String, u64), Fail> {
+    let file = format!(in alloc; "{settings}\n[[creature]]\nat = 0\ncode = '{code}'\n")?;
+    run_file(alloc, &file, 1)
+}
+
 #[test]
 fn the_first_draws_are_worked_by_hand(rt: HostRuntime) -> Result<(), Fail> {
-    let alloc = rt.alloc();
     for (settings, code, line, weight) in FIRST_DRAWS {
-        let file = format!(in alloc; "{settings}\n[[creature]]\nat = 0\ncode = '{code}'\n")?;
-        let (told, sum) = run_file(alloc, &file, 1)?;
-        assert_eq!(rt; told.as_str(), line);
-        assert_eq!(rt; sum, weight);
+        let (told, sum) = first_quantum(rt.alloc(), settings, code)?;
+        assert_eq!(rt; (told.as_str(), sum), (line, weight));
     }
     Ok(())
 }
@@ -346,28 +352,30 @@ const DRAWN: [(&str, u16, &str, u64); 8] = [
     ),
 ];
 
+/// What the ancestor's run in a soup of 500 cells leaves.
+fn run_ancestor(alloc: Global, settings: &str, quanta: u16) -> Result<(String, u64), Fail> {
+    let settings = format!(in alloc; "soup_size = 500\n{settings}")?;
+    run_file(alloc, &ancestor_file(alloc, &settings)?, quanta)
+}
+
 #[test]
 fn draws_change_a_run(rt: HostRuntime) -> Result<(), Fail> {
-    let alloc = rt.alloc();
     for (settings, quanta, line, weight) in DRAWN {
-        let settings = format!(in alloc; "soup_size = 500\n{settings}")?;
-        let file = ancestor_file(alloc, &settings)?;
-        let (told, sum) = run_file(alloc, &file, quanta)?;
-        assert_eq!(rt; told.as_str(), line);
-        assert_eq!(rt; sum, weight);
+        let (told, sum) = run_ancestor(rt.alloc(), settings, quanta)?;
+        assert_eq!(rt; (told.as_str(), sum), (line, weight));
     }
     Ok(())
 }
 
-/// Settings of the ancestor's run, and the result of 20,000 quanta.
+/// Settings of the ancestor's run in a soup of 500 cells, and the result of 20,000 quanta.
 const FULL: [(&str, &str, u64); 2] = [
     (
-        "soup_size = 500",
+        "",
         "births 579 deaths 578 living 2 filled 320 front 578 ip 132 ax 190 bx 110 cx 50 dx 4 flag 0 errors 0",
         319_715,
     ),
     (
-        "soup_size = 500\nback_rate = 40\ncopy_rate = 50\nflaw_rate = 100",
+        "back_rate = 40\ncopy_rate = 50\nflaw_rate = 100",
         "births 16 deaths 16 living 1 filled 320 front 3 ip 11 ax 6 bx 0 cx 2 dx 0 flag 0 errors 32821",
         779_116,
     ),
@@ -375,12 +383,9 @@ const FULL: [(&str, &str, u64); 2] = [
 
 #[test]
 fn a_full_soup_goes_on(rt: HostRuntime) -> Result<(), Fail> {
-    let alloc = rt.alloc();
     for (settings, line, weight) in FULL {
-        let file = ancestor_file(alloc, settings)?;
-        let (told, sum) = run_file(alloc, &file, 20_000)?;
-        assert_eq!(rt; told.as_str(), line);
-        assert_eq!(rt; sum, weight);
+        let (told, sum) = run_ancestor(rt.alloc(), settings, 20_000)?;
+        assert_eq!(rt; (told.as_str(), sum), (line, weight));
     }
     Ok(())
 }

@@ -35,6 +35,19 @@ fn ids_of(world: &World) -> [Option<u64>; 4] {
     ]
 }
 
+fn first_cells(world: &World) -> [Option<u8>; 3] {
+    [cell_of(world, 0), cell_of(world, 1), cell_of(world, 2)]
+}
+
+/// The size of the soup, how many stand in the reaper queue, and the ip at the front of the slicer queue.
+fn numbers_of(world: &World) -> [u32; 3] {
+    [
+        world.settings().soup_size,
+        world.yard_len(),
+        world.front().ip,
+    ]
+}
+
 fn version_size(world: &mut World) -> Result<u32, OutOfMemory> {
     Ok(world.version()?.size())
 }
@@ -42,22 +55,19 @@ fn version_size(world: &mut World) -> Result<u32, OutOfMemory> {
 #[test]
 fn a_world_begins_with_its_creature(rt: HostRuntime) -> Result<(), Fail> {
     let mut world = grown(rt.alloc())?;
-    assert_eq!(rt; counts_of(&world), [0, 0, 0, 1, 2, 1, 0]);
-    assert_eq!(rt; genotypes_of(&world), [1, 1, 0]);
-    assert_eq!(rt; ids_of(&world), [Some(1), None, Some(1), None]);
+    let counts = (counts_of(&world), genotypes_of(&world));
+    let first = (ids_of(&world), first_cells(&world), numbers_of(&world));
+    let size = version_size(&mut world)?;
+    assert_eq!(rt; counts, ([0, 0, 0, 1, 2, 1, 0], [1, 1, 0]));
     assert_eq!(rt;
-        [0, 1, 2].map(|at| cell_of(&world, at)),
-        [Some(9), Some(26), Some(0)]
+        first,
+        (
+            [Some(1), None, Some(1), None],
+            [Some(9), Some(26), Some(0)],
+            [60_000, 1, 0]
+        )
     );
-    assert_eq!(rt;
-        [
-            world.settings().soup_size,
-            world.yard_len(),
-            world.front().ip
-        ],
-        [60_000, 1, 0]
-    );
-    assert_eq!(rt; version_size(&mut world)?, 60_000);
+    assert_eq!(rt; size, 60_000);
     Ok(())
 }
 
