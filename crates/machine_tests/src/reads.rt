@@ -35,6 +35,14 @@ fn lists_of(reads: &Reads) -> (bool, bool) {
     (reads.free().is_some(), reads.yard().is_some())
 }
 
+/// The cells that are read first and second.
+const NOTED: [(u32, u8); 2] = [(3, 1), (0, 9)];
+
+// Whether these are the cells that were read.
+fn has_noted(reads: &Reads) -> bool {
+    reads.len() == 2 && [reads.at(0), reads.at(1)] == NOTED && reads.cells() == NOTED.as_slice()
+}
+
 #[test]
 fn reads_are_kept_in_order(rt: HostRuntime) -> Result<(), Fail> {
     let alloc = rt.alloc();
@@ -44,16 +52,11 @@ fn reads_are_kept_in_order(rt: HostRuntime) -> Result<(), Fail> {
     reads.note_free(free_of(alloc, &FREE)?);
     let copy = reads.copy()?;
     reads.note_yard(yard_of(alloc, &YARD)?);
+    assert!(rt; has_noted(&reads) && has_noted(&copy));
     assert_eq!(rt;
-        (reads.len(), [reads.at(0), reads.at(1)], lists_of(&reads)),
-        (2, [(3, 1), (0, 9)], (true, true))
+        (lists_of(&reads), lists_of(&copy)),
+        ((true, true), (true, false))
     );
-    let both = [(3, 1), (0, 9)];
-    assert_eq!(rt;
-        (reads.cells(), copy.cells()),
-        (both.as_slice(), both.as_slice())
-    );
-    assert_eq!(rt; lists_of(&copy), (true, false));
     Ok(())
 }
 
@@ -116,17 +119,39 @@ fn compare(
 
 const TRUE_CELLS: [(u32, u8); 2] = [(0, 9), (3, 1)];
 
-// Each row agrees in one more part, in the order in which the parts are compared.
+const OTHER_BLOCK: Block = Block { at: 4, size: 90 };
+
+const ERRED: Standing = Standing {
+    id: 1,
+    errors: 1,
+    own: FIRST_BLOCK,
+    daughter: None,
+};
+
+/// Compares reads that agree in this many parts, in the order in which the parts are compared.
+fn compare_agreeing(alloc: Global, parts: u32) -> Result<Result<(), Stale>, OutOfMemory> {
+    let front = newborn(1, FIRST_BLOCK);
+    let front = match parts {
+        0 => Creature { id: 7, ..front },
+        1 => Creature { ax: 5, ..front },
+        _ => front,
+    };
+    let cells = if parts < 3 {
+        [(1, 2), (0, 8)]
+    } else {
+        TRUE_CELLS
+    };
+    let free = if parts < 4 {
+        [FREE[0], OTHER_BLOCK]
+    } else {
+        FREE
+    };
+    let yard = if parts < 5 { [YARD[0], ERRED] } else { YARD };
+    compare(alloc, &front, cells, Some(&free), Some(&yard))
+}
+
 #[test]
 fn the_first_difference_is_told(rt: HostRuntime) -> Result<(), Fail> {
-    let alloc = rt.alloc();
-    let front = newborn(1, FIRST_BLOCK);
-    let moved = Creature { ax: 5, ..front };
-    let other = Creature { id: 7, ..front };
-    let [second, first] = YARD;
-    let short = [FREE[0], Block { at: 4, size: 90 }];
-    let erred = [second, Standing { errors: 1, ..first }];
-    let cells = [(1, 2), (0, 8)];
     let of_cell = Stale::Cell {
         at: 1,
         seen: 2,
@@ -134,81 +159,77 @@ fn the_first_difference_is_told(rt: HostRuntime) -> Result<(), Fail> {
     };
     let of_free = Stale::Free {
         place: 1,
-        seen: Some(short[1]),
+        seen: Some(OTHER_BLOCK),
         now: Some(FREE[1]),
     };
     let of_yard = Stale::Yard {
         place: 1,
-        seen: Some(erred[1]),
-        now: Some(first),
+        seen: Some(ERRED),
+        now: Some(YARD[1]),
     };
     let rows = [
-        (
-            other,
-            cells,
-            short,
-            erred,
-            Err(Stale::Front { seen: 7, now: 1 }),
-        ),
-        (moved, cells, short, erred, Err(Stale::Body)),
-        (front, cells, short, erred, Err(of_cell)),
-        (front, TRUE_CELLS, short, erred, Err(of_free)),
-        (front, TRUE_CELLS, FREE, erred, Err(of_yard)),
-        (front, TRUE_CELLS, FREE, YARD, Ok(())),
+        (0, Err(Stale::Front { seen: 7, now: 1 })),
+        (1, Err(Stale::Body)),
+        (2, Err(of_cell)),
+        (3, Err(of_free)),
+        (4, Err(of_yard)),
+        (5, Ok(())),
     ];
-    for (front, cells, free, yard, want) in rows {
-        let answer = compare(alloc, &front, cells, Some(&free), Some(&yard))?;
-        assert_eq!(rt; answer, want);
+    for (parts, want) in rows {
+        assert_eq!(rt; compare_agreeing(rt.alloc(), parts)?, want);
     }
     Ok(())
+}
+
+/// Compares reads that agree in the record and the cells.
+fn compare_lists(
+    alloc: Global,
+    free: Option<&[Block]>,
+    yard: Option<&[Standing]>,
+) -> Result<Result<(), Stale>, OutOfMemory>
+    requires free { IfSome free (λ blocks. length blocks.now < 2 ^ 32) }
+    requires yard { IfSome yard (λ standings. length standings.now < 2 ^ 32) }
+{
+    compare(alloc, &newborn(1, FIRST_BLOCK), TRUE_CELLS, free, yard)
+}
+
+fn free_differs(place: u32, seen: Option<Block>, now: Option<Block>) -> Result<(), Stale> {
+    Err(Stale::Free { place, seen, now })
+}
+
+fn yard_differs(place: u32, seen: Option<Standing>, now: Option<Standing>) -> Result<(), Stale> {
+    Err(Stale::Yard { place, seen, now })
 }
 
 // A list that was not read is not compared; one that was ends where the other ends.
 #[test]
 fn lists_differ_past_an_end(rt: HostRuntime) -> Result<(), Fail> {
     let alloc = rt.alloc();
-    let front = newborn(1, FIRST_BLOCK);
     let [second, first] = YARD;
     let past = Block { at: 100, size: 1 };
     let long = [FREE[0], FREE[1], past];
     let three = [second, first, first];
-    let none = compare(alloc, &front, TRUE_CELLS, None, None)?;
-    assert_eq!(rt; none, Ok(()));
-    let empty = compare(alloc, &front, TRUE_CELLS, Some(&[]), None)?;
-    assert_eq!(rt;
-        empty,
-        Err(Stale::Free {
-            place: 0,
-            seen: None,
-            now: Some(FREE[0])
-        })
-    );
-    let longer = compare(alloc, &front, TRUE_CELLS, Some(&long), None)?;
-    assert_eq!(rt;
-        longer,
-        Err(Stale::Free {
-            place: 2,
-            seen: Some(past),
-            now: None
-        })
-    );
-    let nobody = compare(alloc, &front, TRUE_CELLS, None, Some(&[]))?;
-    assert_eq!(rt;
-        nobody,
-        Err(Stale::Yard {
-            place: 0,
-            seen: None,
-            now: Some(second)
-        })
-    );
-    let more = compare(alloc, &front, TRUE_CELLS, None, Some(&three))?;
-    assert_eq!(rt;
-        more,
-        Err(Stale::Yard {
-            place: 2,
-            seen: Some(first),
-            now: None
-        })
-    );
+    let rows = [
+        (compare_lists(alloc, None, None)?, Ok(())),
+        (
+            compare_lists(alloc, Some(&[]), None)?,
+            free_differs(0, None, Some(FREE[0])),
+        ),
+        (
+            compare_lists(alloc, Some(&long), None)?,
+            free_differs(2, Some(past), None),
+        ),
+        (
+            compare_lists(alloc, None, Some(&[]))?,
+            yard_differs(0, None, Some(second)),
+        ),
+        (
+            compare_lists(alloc, None, Some(&three))?,
+            yard_differs(2, Some(first), None),
+        ),
+    ];
+    for (answer, want) in rows {
+        assert_eq!(rt; answer, want);
+    }
     Ok(())
 }
