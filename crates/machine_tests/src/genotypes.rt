@@ -30,22 +30,21 @@ fn check_totals(rt: &impl Abort, genotypes: &Genotypes)
 /// What is known of a genotype: its name's rank, its total, its parent and the quantum of its first birth.
 type Row = (u64, u64, Option<u64>, u64);
 
-// That, and the code.
-fn row<'g>(rt: &impl Abort, genotypes: &'g Genotypes, number: u64) -> (Row, &'g [u8]) {
+// What is known of the genotype with this number, which must have this code.
+fn row(rt: &impl Abort, genotypes: &Genotypes, number: u64, cells: &[u8]) -> Row {
     assert!(rt; number < genotypes.len());
     let name = genotypes.name_of(number);
-    let code = genotypes.code_of(number).items.as_slice();
-    assert_eq!(rt; name.size as usize, code.len());
-    let row = (
+    assert!(rt; genotypes.code_of(number).items.as_slice() == cells);
+    assert_eq!(rt; name.size as usize, cells.len());
+    (
         name.rank,
         genotypes.total(number),
         genotypes.parent_of(number),
         genotypes.first_quantum(number),
-    );
-    (row, code)
+    )
 }
 
-// Notes a birth, and gives the genotype's number.
+// Notes a birth. Gives the genotype's number and what is then known of it.
 fn birth(
     rt: &impl Abort,
     alloc: Global,
@@ -53,11 +52,12 @@ fn birth(
     cells: &[u8],
     parent: Option<u64>,
     q: u64,
-) -> Result<u64, OutOfMemory> {
+) -> Result<(u64, Row), OutOfMemory> {
     let code = code(rt, alloc, cells)?;
     genotypes.reserve(1)?;
     check_totals(rt, genotypes);
-    Ok(genotypes.note_birth(code, parent, q))
+    let number = genotypes.note_birth(code, parent, q);
+    Ok((number, row(rt, genotypes, number, cells)))
 }
 
 #[test]
@@ -78,8 +78,7 @@ fn births_are_numbered_and_counted(rt: HostRuntime) -> Result<(), Fail> {
         (one.as_slice(), Some(3), 9, 0, (0, 3, None, 0)),
     ] {
         let born = birth(&rt, rt.alloc(), &mut genotypes, cells, parent, q)?;
-        let known = self::row(&rt, &genotypes, number);
-        assert_eq!(rt; (born, known), (number, (row, cells)));
+        assert_eq!(rt; born, (number, row));
     }
     assert_eq!(rt; genotypes.len(), 4);
     Ok(())
@@ -104,33 +103,42 @@ fn efforts(
     rt: &impl Abort,
     genotypes: &mut Genotypes,
     bred: u64,
-    effort: Effort,
+    ran: u64,
 ) -> (Option<Effort>, Option<Effort>) {
     assert!(rt; 0 < genotypes.len());
-    genotypes.note_effort(0, bred, effort);
+    genotypes.note_effort(0, bred, Effort { ran, moved: 80 });
     assert!(rt; 0 < genotypes.len());
     (genotypes.first_effort(0), genotypes.second_effort(0))
 }
+
+const FIRST: Option<Effort> = Some(Effort {
+    ran: 839,
+    moved: 80,
+});
+
+const SECOND: Option<Effort> = Some(Effort {
+    ran: 813,
+    moved: 80,
+});
+
+/// How many daughters were bred, what the last of them took, and the first two efforts after it.
+const EFFORTS: [(u64, u64, (Option<Effort>, Option<Effort>)); 6] = [
+    (3, 1, (None, None)),
+    (2, 813, (None, SECOND)),
+    (1, 839, (FIRST, SECOND)),
+    (1, 2, (FIRST, SECOND)),
+    (2, 3, (FIRST, SECOND)),
+    (0, 4, (FIRST, SECOND)),
+];
 
 #[test]
 fn first_efforts_stay(rt: HostRuntime) -> Result<(), Fail> {
     let mut genotypes = Genotypes::new(rt.alloc());
     let numbers = enter_first(&rt, rt.alloc(), &mut genotypes)?;
-    assert_eq!(rt; numbers, (None, 0));
-    assert_eq!(rt; row(&rt, &genotypes, 0).0, (0, 7, None, 5));
-    let effort = |ran| Effort { ran, moved: 80 };
-    for (bred, ran, first, second) in [
-        (3, 1, None, None),
-        (2, 813, None, Some(813)),
-        (1, 839, Some(839), Some(813)),
-        (1, 2, Some(839), Some(813)),
-        (2, 3, Some(839), Some(813)),
-        (0, 4, Some(839), Some(813)),
-    ] {
-        assert_eq!(rt;
-            efforts(&rt, &mut genotypes, bred, effort(ran)),
-            (first.map(effort), second.map(effort))
-        );
+    let known = row(&rt, &genotypes, 0, &[1, 2, 3]);
+    assert_eq!(rt; (numbers, known), ((None, 0), (0, 7, None, 5)));
+    for (bred, ran, both) in EFFORTS {
+        assert_eq!(rt; efforts(&rt, &mut genotypes, bred, ran), both);
     }
     Ok(())
 }
