@@ -21,7 +21,8 @@ fn placed(alloc: Global, bytes: &[u8]) -> Result<Vec<(usize, u8)>, OutOfMemory> 
     Ok(placed)
 }
 
-// 104 bytes of soup, 32 of counts, 4 and 129 of the creature, 8 of the reaper queue, 70 of the genotype, 56 of the saving.
+// 104 bytes of soup, 32 of counts, 4 and 129 of the creature, 8 of the reaper queue, 70 of the genotype, 56 of the
+// saving.
 #[test]
 fn a_small_world_is_told_as_bytes(rt: HostRuntime) -> Result<(), Fail> {
     let alloc = rt.alloc();
