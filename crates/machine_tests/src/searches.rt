@@ -240,28 +240,32 @@ fn takes_ten_of_eleven_nops(rt: HostRuntime) -> Result<(), Fail> {
 fn goes_round_the_ring(rt: HostRuntime) -> Result<(), Fail> {
     let alloc = rt.alloc();
     let match_across = &[(3, 0), (4, 0), (99, 1), (0, 1)];
-    assert_eq!(rt;
-        find(alloc, 100, match_across, 2, Way::Backward, 50, 1)?,
-        (Found::At(1), 7)
-    );
     let template_across = &[(99, 0), (0, 1), (50, 1), (51, 0)];
-    assert_eq!(rt;
-        find(alloc, 100, template_across, 98, Way::Outward, 50, 1)?,
-        (Found::At(52), 98)
-    );
-    assert_eq!(rt;
-        find(alloc, 100, template_across, 98, Way::Forward, 50, 1)?,
-        (Found::At(52), 54)
-    );
-    assert_eq!(rt;
-        find(alloc, 100, template_across, 98, Way::Forward, 49, 1)?,
-        (Found::NoMatch, 52)
-    );
     let match_at_the_end = &[(9, 1), (15, 0)];
-    assert_eq!(rt;
-        find(alloc, 16, match_at_the_end, 8, Way::Forward, 6, 1)?,
-        (Found::At(0), 8)
-    );
+    for (found, want) in [
+        (
+            find(alloc, 100, match_across, 2, Way::Backward, 50, 1)?,
+            (Found::At(1), 7),
+        ),
+        (
+            find(alloc, 100, template_across, 98, Way::Outward, 50, 1)?,
+            (Found::At(52), 98),
+        ),
+        (
+            find(alloc, 100, template_across, 98, Way::Forward, 50, 1)?,
+            (Found::At(52), 54),
+        ),
+        (
+            find(alloc, 100, template_across, 98, Way::Forward, 49, 1)?,
+            (Found::NoMatch, 52),
+        ),
+        (
+            find(alloc, 16, match_at_the_end, 8, Way::Forward, 6, 1)?,
+            (Found::At(0), 8),
+        ),
+    ] {
+        assert_eq!(rt; found, want);
+    }
     Ok(())
 }
 
@@ -269,30 +273,34 @@ fn goes_round_the_ring(rt: HostRuntime) -> Result<(), Fail> {
 fn goes_on_to_its_limit(rt: HostRuntime) -> Result<(), Fail> {
     let alloc = rt.alloc();
     let own_cell = &[(0, 1), (1, 0)];
-    assert_eq!(rt;
-        find(alloc, 5, own_cell, 0, Way::Forward, 12, 1)?,
-        (Found::At(1), 6)
-    );
-    assert_eq!(rt;
-        find(alloc, 5, own_cell, 0, Way::Forward, 3, 1)?,
-        (Found::NoMatch, 5)
-    );
-    assert_eq!(rt;
-        find(alloc, 5, &[(1, 0)], 0, Way::Outward, 12, 1)?,
-        (Found::NoMatch, 26)
-    );
-    assert_eq!(rt;
-        find(alloc, 1, &[(0, 0)], 0, Way::Outward, 3, 10)?,
-        (Found::NoMatch, 16)
-    );
-    assert_eq!(rt;
-        find(alloc, 1, &[], 0, Way::Outward, 3, 1)?,
-        (Found::Short, 1)
-    );
-    assert_eq!(rt;
-        find(alloc, 100, &[(1, 0)], 0, Way::Outward, 1048576, 1)?,
-        (Found::NoMatch, 2097154)
-    );
+    for (found, want) in [
+        (
+            find(alloc, 5, own_cell, 0, Way::Forward, 12, 1)?,
+            (Found::At(1), 6),
+        ),
+        (
+            find(alloc, 5, own_cell, 0, Way::Forward, 3, 1)?,
+            (Found::NoMatch, 5),
+        ),
+        (
+            find(alloc, 5, &[(1, 0)], 0, Way::Outward, 12, 1)?,
+            (Found::NoMatch, 26),
+        ),
+        (
+            find(alloc, 1, &[(0, 0)], 0, Way::Outward, 3, 10)?,
+            (Found::NoMatch, 16),
+        ),
+        (
+            find(alloc, 1, &[], 0, Way::Outward, 3, 1)?,
+            (Found::Short, 1),
+        ),
+        (
+            find(alloc, 100, &[(1, 0)], 0, Way::Outward, 1048576, 1)?,
+            (Found::NoMatch, 2097154),
+        ),
+    ] {
+        assert_eq!(rt; found, want);
+    }
     Ok(())
 }
 
@@ -354,24 +362,28 @@ fn find_in_runs(
 fn compares_long_templates(rt: HostRuntime) -> Result<(), Fail> {
     let alloc = rt.alloc();
     let ten = &[(101, 10, 0), (120, 9, 1), (60, 10, 1)];
-    assert_eq!(rt;
-        find_in_runs(alloc, ten, Way::Outward, 90)?,
-        (Found::At(70), 171)
-    );
-    assert_eq!(rt;
-        find_in_runs(alloc, ten, Way::Forward, 90)?,
-        (Found::NoMatch, 145)
-    );
     let nine = &[(101, 9, 0), (115, 8, 1), (70, 9, 1)];
-    assert_eq!(rt;
-        find_in_runs(alloc, nine, Way::Outward, 90)?,
-        (Found::At(79), 134)
-    );
     let eight = &[(101, 8, 0), (115, 7, 1), (70, 8, 1)];
-    assert_eq!(rt;
-        find_in_runs(alloc, eight, Way::Outward, 90)?,
-        (Found::At(78), 118)
-    );
+    for (found, want) in [
+        (
+            find_in_runs(alloc, ten, Way::Outward, 90)?,
+            (Found::At(70), 171),
+        ),
+        (
+            find_in_runs(alloc, ten, Way::Forward, 90)?,
+            (Found::NoMatch, 145),
+        ),
+        (
+            find_in_runs(alloc, nine, Way::Outward, 90)?,
+            (Found::At(79), 134),
+        ),
+        (
+            find_in_runs(alloc, eight, Way::Outward, 90)?,
+            (Found::At(78), 118),
+        ),
+    ] {
+        assert_eq!(rt; found, want);
+    }
     Ok(())
 }
 
@@ -386,17 +398,21 @@ fn compares_short_templates(rt: HostRuntime) -> Result<(), Fail> {
         (131, 1, 0),
         (132, 1, 1),
     ];
-    assert_eq!(rt;
-        find_in_runs(alloc, three, Way::Outward, 90)?,
-        (Found::At(133), 59)
-    );
-    assert_eq!(rt;
-        find_in_runs(alloc, &[(101, 1, 1), (192, 1, 0)], Way::Forward, 90)?,
-        (Found::NoMatch, 92)
-    );
-    assert_eq!(rt;
-        find_in_runs(alloc, &[(101, 1, 1), (193, 1, 0)], Way::Outward, 95)?,
-        (Found::At(194), 185)
-    );
+    for (found, want) in [
+        (
+            find_in_runs(alloc, three, Way::Outward, 90)?,
+            (Found::At(133), 59),
+        ),
+        (
+            find_in_runs(alloc, &[(101, 1, 1), (192, 1, 0)], Way::Forward, 90)?,
+            (Found::NoMatch, 92),
+        ),
+        (
+            find_in_runs(alloc, &[(101, 1, 1), (193, 1, 0)], Way::Outward, 95)?,
+            (Found::At(194), 185),
+        ),
+    ] {
+        assert_eq!(rt; found, want);
+    }
     Ok(())
 }
