@@ -22,6 +22,24 @@ fn an_error_moves_up_past_as_few_errors(rt: HostRuntime) -> Result<(), Fail> {
     Ok(())
 }
 
+// The three that stand in the queue.
+fn three_in(reaper: &Reaper) -> Option<[(u64, u64); 3]> {
+    if reaper.len() == 3 {
+        Some([reaper.at(0), reaper.at(1), reaper.at(2)])
+    } else {
+        None
+    }
+}
+
+// The only one that stands in the queue.
+fn one_in(reaper: &Reaper) -> Option<(u64, u64)> {
+    if reaper.len() == 1 {
+        Some(reaper.at(0))
+    } else {
+        None
+    }
+}
+
 #[test]
 fn moves_go_past_neighbours(rt: HostRuntime) -> Result<(), Fail> {
     let mut reaper = Reaper::new(rt.alloc());
@@ -30,26 +48,25 @@ fn moves_go_past_neighbours(rt: HostRuntime) -> Result<(), Fail> {
     reaper.enter(2);
     reaper.enter(3);
     reaper.good(1);
-    let down = [reaper.at(0), reaper.at(1), reaper.at(2)];
+    let down = three_in(&reaper);
     reaper.error(3);
-    let up = [reaper.at(0), reaper.at(1), reaper.at(2)];
+    let up = three_in(&reaper);
     reaper.good(3);
-    let stays = [reaper.at(0), reaper.at(1), reaper.at(2)];
-    assert_eq!(rt;
-        [down, up, stays],
-        [
-            [(2, 0), (1, 0), (3, 0)],
-            [(2, 0), (3, 1), (1, 0)],
-            [(2, 0), (3, 1), (1, 0)]
-        ]
-    );
-    assert_eq!(rt; reaper.first_other(2), Some(3));
+    let stays = three_in(&reaper);
     let mut copy = reaper.copy()?;
     copy.remove(2);
     copy.remove(1);
+    let others = (reaper.first_other(2), copy.first_other(3));
     assert_eq!(rt;
-        (copy.first_other(3), copy.len(), copy.at(0), reaper.len()),
-        (None, 1, (3, 1), 3)
+        [down, up, stays, three_in(&reaper)],
+        [
+            [(2, 0), (1, 0), (3, 0)],
+            [(2, 0), (3, 1), (1, 0)],
+            [(2, 0), (3, 1), (1, 0)],
+            [(2, 0), (3, 1), (1, 0)]
+        ]
+        .map(Some)
     );
+    assert_eq!(rt; (others, one_in(&copy)), ((Some(3), None), Some((3, 1))));
     Ok(())
 }
