@@ -111,6 +111,27 @@ pub(crate) fn call_over<R: Threads + Wait + Sync>(
     call_with(rt, alloc, words, source.as_bytes(), &given)
 }
 
+/// Whether the call ended with that answer, that text and those calls.
+pub(crate) fn is_end(ended: &Ended, status: &Status, text: &str, calls: &str) -> bool {
+    ended.status == *status
+        && ended.told.as_slice() == text.as_bytes()
+        && ended.calls.as_str() == calls
+}
+
+/// Whether the call over the file is done, with that text and those calls.
+pub(crate) fn is_told<R: Threads + Wait + Sync>(
+    rt: &R,
+    alloc: Global,
+    words: &str,
+    source: &str,
+    image: &[u8],
+    text: &str,
+    calls: &str,
+) -> Result<bool, OutOfMemory> {
+    let ended = call_over(rt, alloc, words, source, image)?;
+    Ok(is_end(&ended, &Status::Done, text, calls))
+}
+
 /// Whether the call over the file is done, with that text and that bank.
 fn is_done_with<R: Threads + Wait + Sync>(
     rt: &R,

@@ -1,10 +1,12 @@
 //! What is told of a genebank, and what leaves the disk alone.
 
-use crate::runs::{Kept, ZERO_FILE, bank_with, call_over, part_of};
+use crate::runs::{Kept, ZERO_FILE, bank_with, call_over, is_told, part_of};
 use bank_recover::BankFault;
 use soup_top::Status;
 use std::alloc::Global;
+use std::sync::Wait;
 use std::test::Fail;
+use std::thread::Threads;
 use test_calls::{Given, PLAIN, call, call_with};
 use test_soups::{ANCESTOR, ANCESTOR_HEX, ancestor_file};
 use tierra_model::OutOfMemory;
@@ -18,6 +20,34 @@ fn bank_text_of(alloc: Global, lines: &str) -> Result<String, OutOfMemory> {
     }
     text.push_str("\n")?;
     Ok(text)
+}
+
+/// The bank of a run, which is done.
+fn kept_by<R: Threads + Wait + Sync>(
+    rt: &R,
+    alloc: Global,
+    words: &str,
+    source: &str,
+) -> Result<Vec<u8>, Fail> {
+    let ended = call(rt, alloc, words, source)?;
+    if ended.status == Status::Done {
+        Ok(ended.file(0)?)
+    } else {
+        Err(Fail::from("the run is not done"))
+    }
+}
+
+/// Whether the bank of a run is told by these lines and the code of the ancestor.
+fn is_bank_told<R: Threads + Wait + Sync>(
+    rt: &R,
+    alloc: Global,
+    words: &str,
+    source: &str,
+    lines: &str,
+) -> Result<bool, Fail> {
+    let bank = kept_by(rt, alloc, words, source)?;
+    let text = bank_text_of(alloc, lines)?;
+    Ok(is_told(rt, alloc, "bank", "", &bank, &text, "LRT")?)
 }
 
 #[test]
@@ -37,11 +67,8 @@ fn a_bank_is_told(rt: HostRuntime) -> Result<(), Fail> {
         ),
     ];
     for (words, source, lines) in rows {
-        let ended = call(&rt, alloc, words, source)?;
-        assert_eq!(rt; ended.status, Status::Done, "{words}");
-        let ended = call_over(&rt, alloc, "bank", "", &ended.file(0)?)?;
-        assert!(rt; ended.is_done(&bank_text_of(alloc, lines)?), "{words}");
-        assert_eq!(rt; ended.calls.as_str(), "LRT", "{words}");
+        let is_so = is_bank_told(&rt, alloc, words, source, lines)?;
+        assert!(rt; is_so, "{words}");
     }
     Ok(())
 }
@@ -85,7 +112,7 @@ fn an_empty_bank_is_told_without_a_read(rt: HostRuntime) -> Result<(), Fail> {
 #[test]
 fn a_bank_is_probed(rt: HostRuntime) -> Result<(), Fail> {
     let alloc = rt.alloc();
-    let bank = call(&rt, alloc, "grow --quanta 34", ANCESTOR)?.file(0)?;
+    let bank = kept_by(&rt, alloc, "grow --quanta 34", ANCESTOR)?;
     let rows: [(&str, &str); 3] = [
         (
             "probe --quanta 100 --workers 3",
@@ -95,19 +122,30 @@ fn a_bank_is_probed(rt: HostRuntime) -> Result<(), Fail> {
         ("probe --quanta 33", "0080aaa first none second none\n"),
     ];
     for (words, text) in rows {
-        let ended = call_over(&rt, alloc, words, "", &bank)?;
-        assert!(rt; ended.is_done(text), "{words}");
-        assert_eq!(rt; ended.calls.as_str(), "LRT", "{words}");
+        assert!(rt;
+            is_told(&rt, alloc, words, "", &bank, text, "LRT")?,
+            "{words}"
+        );
     }
     Ok(())
+}
+
+/// Whether the call over an empty file is done, with those calls.
+fn is_done_by<R: Threads + Wait + Sync>(
+    rt: &R,
+    alloc: Global,
+    words: &str,
+    source: &str,
+    calls: &str,
+) -> Result<bool, OutOfMemory> {
+    let ended = call(rt, alloc, words, source)?;
+    Ok(ended.status == Status::Done && ended.calls.as_str() == calls)
 }
 
 #[test]
 fn nothing_is_told_of_a_bank_without_groups(rt: HostRuntime) -> Result<(), Fail> {
     for words in ["bank", "probe"] {
-        let ended = call(&rt, rt.alloc(), words, "")?;
-        assert_eq!(rt; ended.status, Status::Done, "{words}");
-        assert_eq!(rt; ended.calls.as_str(), "L", "{words}");
+        assert!(rt; is_done_by(&rt, rt.alloc(), words, "", "L")?, "{words}");
     }
     Ok(())
 }
@@ -124,9 +162,7 @@ fn other_texts_are_told_without_the_disk(rt: HostRuntime) -> Result<(), Fail> {
         ("isles --quanta 1", ZERO_FILE),
     ];
     for (words, source) in rows {
-        let ended = call(&rt, rt.alloc(), words, source)?;
-        assert_eq!(rt; ended.status, Status::Done, "{words}");
-        assert_eq!(rt; ended.calls.as_str(), "T", "{words}");
+        assert!(rt; is_done_by(&rt, rt.alloc(), words, source, "T")?, "{words}");
     }
     Ok(())
 }
