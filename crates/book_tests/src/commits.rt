@@ -287,20 +287,33 @@ fn commit_all<L: Ledger>(alloc: Global, book: &mut Book, steps: &mut Steps<L>) -
     Ok(())
 }
 
+/// How many quanta a book commits so, and the bytes of the world that it ends in.
+fn drilled_world<L: Ledger>(alloc: Global, steps: &mut Steps<L>) -> Result<(u64, Vec<u8>), Fail> {
+    let mut book = book_of(alloc, CROWDED, 2000, 8)?;
+    commit_all(alloc, &mut book, steps)?;
+    Ok((book.committed(), bytes_of(alloc, book.world())?))
+}
+
+/// The births and deaths of the serial run, and the bytes of the world that it ends in.
+fn serial_world(alloc: Global) -> Result<(u64, u64, Vec<u8>), Fail> {
+    let setup = setup_of(alloc, CROWDED)?;
+    let world = run_serial(alloc, &setup, 2000)?;
+    Ok((world.births(), world.deaths(), bytes_of(alloc, &world)?))
+}
+
 fn backwards<R: Abort, L: Ledger>(rt: &R, alloc: Global, blank: Blank) -> Result<(), Fail>
     requires name { blank.name ≡ L.name }
     requires parts { blank.parts ≡ L.parts }
     requires some { 0 < L.parts }
 {
     let mut steps = Steps::<L>::start(blank);
-    let mut book = book_of(alloc, CROWDED, 2000, 8)?;
-    commit_all(alloc, &mut book, &mut steps)?;
-    assert_eq!(rt; book.committed(), 2000);
-    let drilled = bytes_of(alloc, book.world())?;
-    let serial = run_serial(alloc, &setup_of(alloc, CROWDED)?, 2000)?;
-    assert!(rt; serial.deaths() > 100 && serial.births() > 100);
-    let serial = bytes_of(alloc, &serial)?;
-    assert!(rt; drilled.as_slice() == serial.as_slice());
+    let (committed, drilled) = drilled_world(alloc, &mut steps)?;
+    let (births, deaths, serial) = serial_world(alloc)?;
+    let is_same = drilled.as_slice() == serial.as_slice();
+    assert_eq!(rt;
+        (committed, births > 100, deaths > 100, is_same),
+        (2000, true, true, true)
+    );
     Ok(())
 }
 
