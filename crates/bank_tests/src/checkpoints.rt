@@ -1,6 +1,6 @@
 //! Runs that keep checkpoints.
 
-use crate::runs::call_over;
+use crate::runs::{call_over, is_end};
 use soup_checkpoint::HoldFault;
 use soup_top::Status;
 use std::alloc::Global;
@@ -20,17 +20,25 @@ const TEXT: &str = "held 34\nheld 68\nquanta 100\nbirths 2\ndeaths 0\nliving 3\n
 // A letter for each of its calls: the file is made, two states are appended, and the line of each is told.
 const CALLS: &str = "SLWSWSWSWSWSTWSWSTT";
 
+/// The checkpoints of the ancestor's run, which is done with its text and its calls.
+fn held<R: Threads + Wait + Sync>(rt: &R, alloc: Global, source: &str) -> Result<Vec<u8>, Fail> {
+    let ended = call(rt, alloc, WORDS, source)?;
+    if is_end(&ended, &Status::Done, TEXT, CALLS) {
+        Ok(ended.file(0)?)
+    } else {
+        Err(Fail::from("the run ended in another way"))
+    }
+}
+
 #[test]
 fn a_run_goes_on_from_its_checkpoint(rt: HostRuntime) -> Result<(), Fail> {
     let alloc = rt.alloc();
     let source = ancestor_file(alloc, "")?;
-    let ended = call(&rt, alloc, WORDS, &source)?;
-    assert!(rt; ended.is_done(TEXT));
-    assert_eq!(rt; ended.calls.as_str(), CALLS);
+    let image = held(&rt, alloc, &source)?;
     let longer = "hold --quanta 101 --every 34";
-    let ended = call_over(&rt, alloc, longer, &source, &ended.file(0)?)?;
-    assert_eq!(rt; ended.status, Status::Done);
-    assert!(rt; ended.told.as_slice().starts_with(b"quanta 101\nbirths 3\n"));
+    let ended = call_over(&rt, alloc, longer, &source, &image)?;
+    let is_told = ended.told.as_slice().starts_with(b"quanta 101\nbirths 3\n");
+    assert!(rt; ended.status == Status::Done && is_told);
     Ok(())
 }
 
@@ -65,33 +73,41 @@ fn goes_on_from_each_crash<R: Threads + Wait + Sync>(
     Ok(true)
 }
 
+/// Whether the run whose calls fail from one on ends with that fault and so many lines, and can go on from each crash.
+fn stopped_at<R: Threads + Wait + Sync>(
+    rt: &R,
+    alloc: Global,
+    source: &str,
+    stop: u64,
+    want: &Status,
+    lines: u64,
+) -> Result<[bool; 3], OutOfMemory> {
+    let given = Given {
+        stop: Some(stop),
+        ..PLAIN
+    };
+    let ended = call_with(rt, alloc, WORDS, source.as_bytes(), &given)?;
+    Ok([
+        ended.status == *want,
+        ended.told.as_slice() == first_lines(lines).as_bytes(),
+        goes_on_from_each_crash(rt, alloc, source, &ended, lines)?,
+    ])
+}
+
 #[test]
 fn a_stop_at_each_call_leaves_a_true_checkpoint(rt: HostRuntime) -> Result<(), Fail> {
     let alloc = rt.alloc();
     let source = ancestor_file(alloc, "soup_size = 1000\n")?;
     for stop in 1..=19u64 {
-        let given = Given {
-            stop: Some(stop),
-            ..PLAIN
-        };
-        let ended = call_with(&rt, alloc, WORDS, source.as_bytes(), &given)?;
         let want = if matches!(stop, 13 | 18 | 19) {
             Status::TellFault
         } else {
             Status::DiskFault
         };
-        assert_eq!(rt; ended.status, want, "stop {stop}");
         // Each state has four disk calls and a tell after the eight of the attach.
         let lines = stop.saturating_sub(9) / 5;
-        assert_eq!(rt;
-            ended.told.as_slice(),
-            first_lines(lines).as_bytes(),
-            "stop {stop}"
-        );
-        assert!(rt;
-            goes_on_from_each_crash(&rt, alloc, &source, &ended, lines)?,
-            "stop {stop}"
-        );
+        let seen = stopped_at(&rt, alloc, &source, stop, &want, lines)?;
+        assert_eq!(rt; seen, [true; 3], "stop {stop}");
     }
     Ok(())
 }
@@ -100,15 +116,10 @@ fn a_stop_at_each_call_leaves_a_true_checkpoint(rt: HostRuntime) -> Result<(), F
 fn a_shorter_run_refuses_the_checkpoint(rt: HostRuntime) -> Result<(), Fail> {
     let alloc = rt.alloc();
     let source = ancestor_file(alloc, "")?;
-    let ended = call(&rt, alloc, WORDS, &source)?;
-    assert_eq!(rt; ended.status, Status::Done);
-    let ended = call_over(&rt, alloc, "hold --quanta 50", &source, &ended.file(0)?)?;
-    assert_eq!(rt;
-        ended.status,
-        Status::HoldRefused(HoldFault::Beyond { held: 68 })
-    );
-    assert!(rt; ended.told.is_empty());
-    assert_eq!(rt; ended.calls.as_str(), "SLRR");
+    let image = held(&rt, alloc, &source)?;
+    let ended = call_over(&rt, alloc, "hold --quanta 50", &source, &image)?;
+    let want = Status::HoldRefused(HoldFault::Beyond { held: 68 });
+    assert!(rt; is_end(&ended, &want, "", "SLRR"));
     Ok(())
 }
 

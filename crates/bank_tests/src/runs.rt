@@ -99,6 +99,28 @@ fn sum_of(image: &[u8]) -> Sum {
     (image.len(), Sha256::digest(image))
 }
 
+/// The banks whose sums are known.
+#[derive(Clone, Copy, Drop)]
+enum Known {
+    One,
+    Three,
+    BothForms,
+    Zero,
+}
+
+fn known_sum(bank: Known) -> Sum {
+    match bank {
+        Known::One => BANK_OF_ONE,
+        Known::Three => BANK_OF_THREE,
+        Known::BothForms => BANK_OF_BOTH_FORMS,
+        Known::Zero => BANK_OF_ZERO,
+    }
+}
+
+fn is_bank(image: &[u8], bank: Known) -> bool {
+    sum_of(image) == known_sum(bank)
+}
+
 /// Makes a call over a file.
 pub(crate) fn call_over<R: Threads + Wait + Sync>(
     rt: &R,
@@ -132,36 +154,30 @@ pub(crate) fn is_told<R: Threads + Wait + Sync>(
     Ok(is_end(&ended, &Status::Done, text, calls))
 }
 
-/// Whether the call over the file is done, with that text and that bank.
-fn is_done_with<R: Threads + Wait + Sync>(
+/// Whether the call over an empty file is done, with that text, that bank and those calls.
+fn is_made<R: Threads + Wait + Sync>(
     rt: &R,
     alloc: Global,
     words: &str,
     source: &str,
-    image: &[u8],
     text: &str,
-    bank: &Sum,
+    bank: Known,
+    calls: &str,
 ) -> Result<bool, OutOfMemory> {
-    let ended = call_over(rt, alloc, words, source, image)?;
-    Ok(ended.is_done(text) && sum_of(&ended.file(0)?) == *bank)
+    let ended = call(rt, alloc, words, source)?;
+    Ok(is_end(&ended, &Status::Done, text, calls) && is_bank(&ended.file(0)?, bank))
 }
 
-/// Whether the run of the three ancestors over the file is done, with its text and its bank.
+/// Whether the run of the three ancestors over the file is done, with its text and that bank.
 fn is_done_of_three<R: Threads + Wait + Sync>(
     rt: &R,
     alloc: Global,
     three: &str,
     image: &[u8],
+    bank: Known,
 ) -> Result<bool, OutOfMemory> {
-    is_done_with(
-        rt,
-        alloc,
-        RUN_OF_THREE,
-        three,
-        image,
-        TEXT_OF_THREE,
-        &BANK_OF_THREE,
-    )
+    let ended = call_over(rt, alloc, RUN_OF_THREE, three, image)?;
+    Ok(ended.is_done(TEXT_OF_THREE) && is_bank(&ended.file(0)?, bank))
 }
 
 /// Whether the call over the file refuses it, tells nothing and only reads.
@@ -174,11 +190,7 @@ fn is_refused_unwritten<R: Threads + Wait + Sync>(
     fault: BankFault,
 ) -> Result<bool, OutOfMemory> {
     let ended = call_over(rt, alloc, words, source, image)?;
-    Ok(
-        ended.status == Status::BankRefused(fault)
-            && ended.told.is_empty()
-            && ended.calls.as_str() == "SLR",
-    )
+    Ok(is_end(&ended, &Status::BankRefused(fault), "", "SLR"))
 }
 
 /// The first saved lines of the three ancestors.
@@ -191,49 +203,71 @@ fn first_lines(count: u64) -> &'static str {
     }
 }
 
+/// Whether so many of these lines were told, and nothing else.
+fn has_told(ended: &Ended, lines: u64) -> bool {
+    ended.told.as_slice() == first_lines(lines).as_bytes()
+}
+
 #[test]
 fn a_run_makes_its_bank(rt: HostRuntime) -> Result<(), Fail> {
     let alloc = rt.alloc();
     let three = three_ancestors(alloc)?;
     let one_group = "SLWSWSWSWSWSTT";
-    let rows: [(&str, &str, &str, Sum, &str); 5] = [
+    let rows: [(&str, &str, &str, Known, &str); 5] = [
         (
             "run --quanta 1",
             ZERO_FILE,
             ZERO_TEXT,
-            BANK_OF_ZERO,
+            Known::Zero,
             one_group,
         ),
-        ("grow --quanta 34", ANCESTOR, GROWN, BANK_OF_ONE, one_group),
+        ("grow --quanta 34", ANCESTOR, GROWN, Known::One, one_group),
         (
             RUN_OF_THREE,
             &three,
             TEXT_OF_THREE,
-            BANK_OF_THREE,
+            Known::Three,
             CALLS_OF_THREE,
         ),
         (
             "run --quanta 102 --workers 2",
             &three,
             TEXT_OF_THREE,
-            BANK_OF_THREE,
+            Known::Three,
             CALLS_OF_THREE,
         ),
         (
             "run --quanta 102 --workers 8",
             &three,
             TEXT_OF_THREE,
-            BANK_OF_THREE,
+            Known::Three,
             CALLS_OF_THREE,
         ),
     ];
     for (words, source, text, bank, calls) in rows {
-        let ended = call(&rt, alloc, words, source)?;
-        assert!(rt; ended.is_done(text), "{words}");
-        assert!(rt; sum_of(&ended.file(0)?) == bank, "{words}");
-        assert_eq!(rt; ended.calls.as_str(), calls, "{words}");
+        let is_so = is_made(&rt, alloc, words, source, text, bank, calls)?;
+        assert!(rt; is_so, "{words}");
     }
     Ok(())
+}
+
+/// Whether a call is done with a text that has these lines in it.
+fn has_lines(ended: &Ended, lines: &str) -> Result<bool, Fail> {
+    Ok(ended.status == Status::Done && str::from_utf8(&ended.told)?.contains(lines))
+}
+
+/// Whether the run over an empty file is done, with the text and the bank of that one.
+fn is_alike<R: Threads + Wait + Sync>(
+    rt: &R,
+    alloc: Global,
+    words: &str,
+    source: &str,
+    first: &Ended,
+) -> Result<bool, OutOfMemory> {
+    let ended = call(rt, alloc, words, source)?;
+    let same_text = ended.told.as_slice() == first.told.as_slice();
+    let same_bank = sum_of(&ended.file(0)?) == sum_of(&first.file(0)?);
+    Ok(ended.status == Status::Done && same_text && same_bank)
 }
 
 #[test]
@@ -241,20 +275,13 @@ fn runs_with_mutations_are_alike_with_any_number_of_workers(rt: HostRuntime) -> 
     let alloc = rt.alloc();
     let source = ancestor_file(alloc, "copy_rate = 1000\nback_rate = 10000\n")?;
     let first = call(&rt, alloc, "run --quanta 5000", &source)?;
-    assert_eq!(rt; first.status, Status::Done);
     let counts = "quanta 5000\nbirths 113\ndeaths 0\nliving 114\nfilled 18559\nfront ";
-    let text = str::from_utf8(&first.told)?;
-    assert!(rt; text.contains(counts));
+    assert!(rt; has_lines(&first, counts)?);
     for words in [
         "run --quanta 5000 --workers 3",
         "run --quanta 5000 --workers 64",
     ] {
-        let ended = call(&rt, alloc, words, &source)?;
-        assert!(rt; ended.is_done(text), "{words}");
-        assert!(rt;
-            sum_of(&ended.file(0)?) == sum_of(&first.file(0)?),
-            "{words}"
-        );
+        assert!(rt; is_alike(&rt, alloc, words, &source, &first)?, "{words}");
     }
     Ok(())
 }
@@ -263,6 +290,26 @@ fn runs_with_mutations_are_alike_with_any_number_of_workers(rt: HostRuntime) -> 
 fn begins_with(alloc: Global, ended: &Ended, lines: &str) -> Result<bool, OutOfMemory> {
     let front = format!(in alloc; "{lines}quanta ")?;
     Ok(ended.told.as_slice().starts_with(front.as_bytes()))
+}
+
+/// The bank that a run over another one leaves, where the run is done, tells so many saved lines before its report, and
+/// makes those calls.
+fn gone_on<R: Threads + Wait + Sync>(
+    rt: &R,
+    alloc: Global,
+    words: &str,
+    three: &str,
+    image: &[u8],
+    lines: u64,
+    calls: &str,
+) -> Result<Option<Vec<u8>>, OutOfMemory> {
+    let ended = call_over(rt, alloc, words, three, image)?;
+    let is_told = begins_with(alloc, &ended, first_lines(lines))?;
+    if ended.status == Status::Done && is_told && ended.calls.as_str() == calls {
+        Ok(Some(ended.file(0)?))
+    } else {
+        Ok(None)
+    }
 }
 
 #[test]
@@ -279,27 +326,23 @@ fn a_bank_goes_on_with_a_longer_run(rt: HostRuntime) -> Result<(), Fail> {
         ("run --quanta 101", 2, 600, "SLRTTT"),
     ];
     for (words, lines, len, calls) in rows {
-        let ended = call_over(&rt, alloc, words, &three, &image)?;
-        assert_eq!(rt; ended.status, Status::Done, "{words}");
-        assert!(rt; begins_with(alloc, &ended, first_lines(lines))?, "{words}");
-        assert_eq!(rt; ended.calls.as_str(), calls, "{words}");
-        image = ended.file(0)?;
-        assert_eq!(rt; image.len(), len, "{words}");
+        let Some(left) = gone_on(&rt, alloc, words, &three, &image, lines, calls)? else {
+            panic!(rt; "{words}")
+        };
+        assert_eq!(rt; left.len(), len, "{words}");
+        image = left;
     }
-    assert!(rt; sum_of(&image) == BANK_OF_THREE);
+    assert!(rt; is_bank(&image, Known::Three));
     Ok(())
 }
 
 #[test]
 fn a_shorter_run_leaves_the_bank_alone(rt: HostRuntime) -> Result<(), Fail> {
     let alloc = rt.alloc();
-    let ended = call(&rt, alloc, "grow --quanta 100", ANCESTOR)?;
-    assert_eq!(rt; ended.status, Status::Done);
-    let bank = ended.file(0)?;
-    assert!(rt; sum_of(&bank) == BANK_OF_ONE);
-    let ended = call_over(&rt, alloc, "grow --quanta 34", ANCESTOR, &bank)?;
-    assert!(rt; ended.is_done(GROWN));
-    assert_eq!(rt; ended.calls.as_str(), "SLRTT");
+    let bank = bank_of(&rt, alloc, "grow --quanta 100", ANCESTOR, Known::One)?;
+    let words = "grow --quanta 34";
+    let is_so = is_told(&rt, alloc, words, ANCESTOR, &bank, GROWN, "SLRTT")?;
+    assert!(rt; is_so);
     Ok(())
 }
 
@@ -311,7 +354,7 @@ fn goes_on_from_each_crash<R: Threads + Wait + Sync>(
     ended: &Ended,
 ) -> Result<bool, OutOfMemory> {
     for pick in 0..4u32 {
-        if !is_done_of_three(rt, alloc, three, &ended.file(pick)?)? {
+        if !is_done_of_three(rt, alloc, three, &ended.file(pick)?, Known::Three)? {
             return Ok(false);
         }
     }
@@ -328,32 +371,60 @@ fn leaves_nothing(ended: &Ended) -> Result<bool, OutOfMemory> {
     Ok(true)
 }
 
+/// How many calls the run of the three ancestors makes where one disk call fails. And whether it ends with that fault,
+/// so many saved lines and the first of all calls, leaves nothing before it writes, and goes on from each crash.
+fn failed_at<R: Threads + Wait + Sync>(
+    rt: &R,
+    alloc: Global,
+    three: &str,
+    number: u64,
+    lines: u64,
+) -> Result<(u64, [bool; 5]), OutOfMemory> {
+    let given = Given {
+        disk: &[number],
+        ..PLAIN
+    };
+    let ended = call_with(rt, alloc, RUN_OF_THREE, three.as_bytes(), &given)?;
+    let calls = ended.calls.as_str();
+    let seen = [
+        ended.status == Status::DiskFault,
+        has_told(&ended, lines),
+        CALLS_OF_THREE.starts_with(calls),
+        // The third call is the first that writes.
+        number > 2 || leaves_nothing(&ended)?,
+        goes_on_from_each_crash(rt, alloc, three, &ended)?,
+    ];
+    Ok((calls.len() as u64, seen))
+}
+
 #[test]
 fn a_disk_call_that_fails_is_the_last(rt: HostRuntime) -> Result<(), Fail> {
     let alloc = rt.alloc();
     let three = three_ancestors(alloc)?;
     for number in 1..=20u64 {
-        let given = Given {
-            disk: &[number],
-            ..PLAIN
-        };
-        let ended = call_with(&rt, alloc, RUN_OF_THREE, three.as_bytes(), &given)?;
-        assert_eq!(rt; ended.status, Status::DiskFault, "call {number}");
         // Each group has four disk calls after the eight of the attach.
         let lines = number.saturating_sub(9) / 4;
-        let told = ended.told.as_slice();
-        assert_eq!(rt; told, first_lines(lines).as_bytes(), "call {number}");
-        let calls = ended.calls.as_str();
-        assert_eq!(rt; calls.len() as u64, number + lines, "call {number}");
-        assert!(rt; CALLS_OF_THREE.starts_with(calls), "call {number}");
-        // The third call is the first that writes.
-        assert!(rt; number > 2 || leaves_nothing(&ended)?, "call {number}");
-        assert!(rt;
-            goes_on_from_each_crash(&rt, alloc, &three, &ended)?,
-            "call {number}"
-        );
+        let seen = failed_at(&rt, alloc, &three, number, lines)?;
+        assert_eq!(rt; seen, (number + lines, [true; 5]), "call {number}");
     }
     Ok(())
+}
+
+/// Whether the run of the three ancestors in which one tell fails ends there, with those calls and the lines before it.
+fn is_untold<R: Threads + Wait + Sync>(
+    rt: &R,
+    alloc: Global,
+    three: &str,
+    number: u64,
+    calls: &str,
+) -> Result<bool, OutOfMemory> {
+    let given = Given {
+        tells: &[number],
+        ..PLAIN
+    };
+    let ended = call_with(rt, alloc, RUN_OF_THREE, three.as_bytes(), &given)?;
+    let lines = first_lines(number.saturating_sub(1));
+    Ok(is_end(&ended, &Status::TellFault, lines, calls))
 }
 
 #[test]
@@ -367,15 +438,10 @@ fn a_tell_that_fails_is_the_last_call(rt: HostRuntime) -> Result<(), Fail> {
         (4, CALLS_OF_THREE),
     ];
     for (number, calls) in rows {
-        let given = Given {
-            tells: &[number],
-            ..PLAIN
-        };
-        let ended = call_with(&rt, alloc, RUN_OF_THREE, three.as_bytes(), &given)?;
-        assert_eq!(rt; ended.status, Status::TellFault, "tell {number}");
-        let lines = first_lines(number.saturating_sub(1));
-        assert_eq!(rt; ended.told.as_slice(), lines.as_bytes(), "tell {number}");
-        assert_eq!(rt; ended.calls.as_str(), calls, "tell {number}");
+        assert!(rt;
+            is_untold(&rt, alloc, &three, number, calls)?,
+            "tell {number}"
+        );
     }
     Ok(())
 }
@@ -392,47 +458,62 @@ fn keeps_groups(alloc: Global, ended: &Ended, least: u64) -> Result<bool, Fail> 
     Ok(true)
 }
 
+/// Whether the run of the three ancestors whose calls fail from one on ends with that fault and so many saved lines,
+/// leaves their groups at each crash, and goes on from it.
+fn stopped_at<R: Threads + Wait + Sync>(
+    rt: &R,
+    alloc: Global,
+    three: &str,
+    stop: u64,
+    want: &Status,
+    lines: u64,
+) -> Result<[bool; 4], Fail> {
+    let given = Given {
+        stop: Some(stop),
+        ..PLAIN
+    };
+    let ended = call_with(rt, alloc, RUN_OF_THREE, three.as_bytes(), &given)?;
+    Ok([
+        ended.status == *want,
+        has_told(&ended, lines),
+        keeps_groups(alloc, &ended, lines)?,
+        goes_on_from_each_crash(rt, alloc, three, &ended)?,
+    ])
+}
+
 #[test]
 fn a_stop_at_each_call_leaves_a_true_bank(rt: HostRuntime) -> Result<(), Fail> {
     let alloc = rt.alloc();
     let three = three_ancestors(alloc)?;
     for stop in 1..=24u64 {
-        let given = Given {
-            stop: Some(stop),
-            ..PLAIN
-        };
-        let ended = call_with(&rt, alloc, RUN_OF_THREE, three.as_bytes(), &given)?;
         let want = if matches!(stop, 13 | 18 | 23 | 24) {
             Status::TellFault
         } else {
             Status::DiskFault
         };
-        assert_eq!(rt; ended.status, want, "stop {stop}");
         // Each group has four disk calls and a tell after the eight of the attach.
         let lines = stop.saturating_sub(9) / 5;
-        let told = ended.told.as_slice();
-        assert_eq!(rt; told, first_lines(lines).as_bytes(), "stop {stop}");
-        assert!(rt; keeps_groups(alloc, &ended, lines)?, "stop {stop}");
-        assert!(rt;
-            goes_on_from_each_crash(&rt, alloc, &three, &ended)?,
-            "stop {stop}"
-        );
+        let seen = stopped_at(&rt, alloc, &three, stop, &want, lines)?;
+        assert_eq!(rt; seen, [true; 4], "stop {stop}");
     }
     Ok(())
 }
 
-/// The bank of the three ancestors.
-fn bank_of_three<R: Threads + Wait + Sync>(
+/// The bank that a run makes, which is known.
+fn bank_of<R: Threads + Wait + Sync>(
     rt: &R,
     alloc: Global,
-    three: &str,
+    words: &str,
+    source: &str,
+    bank: Known,
 ) -> Result<Vec<u8>, Fail> {
-    let ended = call(rt, alloc, RUN_OF_THREE, three)?;
-    let bank = ended.file(0)?;
-    if ended.status != Status::Done || sum_of(&bank) != BANK_OF_THREE {
-        return Err(Fail::from("the run made another bank"));
+    let ended = call(rt, alloc, words, source)?;
+    let made = ended.file(0)?;
+    if ended.status == Status::Done && is_bank(&made, bank) {
+        Ok(made)
+    } else {
+        Err(Fail::from("the run made another bank"))
     }
-    Ok(bank)
 }
 
 /// Whether the run of the three goes on from that image, or refuses it where a group is given as damaged.
@@ -448,7 +529,7 @@ fn goes_on_or_refuses<R: Threads + Wait + Sync>(
             let fault = BankFault::Damaged { group };
             is_refused_unwritten(rt, alloc, RUN_OF_THREE, three, image, fault)
         }
-        None => is_done_of_three(rt, alloc, three, image),
+        None => is_done_of_three(rt, alloc, three, image, Known::Three),
     }
 }
 
@@ -456,7 +537,7 @@ fn goes_on_or_refuses<R: Threads + Wait + Sync>(
 fn a_bank_is_cut_at_each_length(rt: HostRuntime) -> Result<(), Fail> {
     let alloc = rt.alloc();
     let three = three_ancestors(alloc)?;
-    let bank = bank_of_three(&rt, alloc, &three)?;
+    let bank = bank_of(&rt, alloc, RUN_OF_THREE, &three, Known::Three)?;
     for len in 0..=bank.len() {
         let damaged = match len {
             45..=229 => Some(0),
@@ -470,33 +551,51 @@ fn a_bank_is_cut_at_each_length(rt: HostRuntime) -> Result<(), Fail> {
     Ok(())
 }
 
+/// The bank of the three ancestors, with another byte at a place.
+fn changed<R: Threads + Wait + Sync>(
+    rt: &R,
+    alloc: Global,
+    three: &str,
+    place: usize,
+) -> Result<Vec<u8>, Fail> {
+    let mut image = bank_of(rt, alloc, RUN_OF_THREE, three, Known::Three)?;
+    match image.get_mut(place) {
+        Some(cell) => *cell = 9,
+        None => return Err(Fail::from("no such place")),
+    }
+    Ok(image)
+}
+
+/// The fault of a bank of the three ancestors with another first byte of its digest.
+fn foreign() -> BankFault {
+    let mut found = SETUP_OF_THREE;
+    found[0] = 9;
+    let wanted = SETUP_OF_THREE;
+    BankFault::Foreign { found, wanted }
+}
+
+/// Whether a call that refuses a bank has exit number 3 and a line for standard error that ends with this reason.
+fn has_line(alloc: Global, fault: BankFault, reason: &str) -> Result<bool, OutOfMemory> {
+    let status = Status::BankRefused(fault);
+    let line = format!(in alloc; "tierra: tierra.bank{reason}\n")?;
+    Ok(status.number() == 3 && line_of(alloc, &status)?.as_slice() == line.as_bytes())
+}
+
 #[test]
 fn another_file_is_refused(rt: HostRuntime) -> Result<(), Fail> {
     let alloc = rt.alloc();
     let three = three_ancestors(alloc)?;
-    let mut found = SETUP_OF_THREE;
-    found[0] = 9;
-    let wanted = SETUP_OF_THREE;
     // A byte of the title, of the digest, and of a code in group 1.
     let rows: [(usize, BankFault, &str); 3] = [
         (1, BankFault::NotABank, " is not a genebank"),
-        (
-            12,
-            BankFault::Foreign { found, wanted },
-            " belongs to another setup",
-        ),
+        (12, foreign(), " belongs to another setup"),
         (302, BankFault::Damaged { group: 1 }, ": group 1 is damaged"),
     ];
     for (place, fault, reason) in rows {
-        let mut image = bank_of_three(&rt, alloc, &three)?;
-        assert!(rt; place < image.len());
-        image[place] = 9;
+        let image = changed(&rt, alloc, &three, place)?;
         let is_refused = is_refused_unwritten(&rt, alloc, RUN_OF_THREE, &three, &image, fault)?;
-        assert!(rt; is_refused, "byte {place}");
-        let status = Status::BankRefused(fault);
-        assert_eq!(rt; status.number(), 3);
-        let line = format!(in alloc; "tierra: tierra.bank{reason}\n")?;
-        assert_eq!(rt; line_of(alloc, &status)?.as_slice(), line.as_bytes());
+        let is_line = has_line(alloc, fault, reason)?;
+        assert_eq!(rt; (is_refused, is_line), (true, true), "byte {place}");
     }
     Ok(())
 }
@@ -551,11 +650,28 @@ fn a_bank_of_form_one_goes_on(rt: HostRuntime) -> Result<(), Fail> {
         last: 5,
     };
     let image = bank_with(alloc, &SETUP_OF_THREE, &group)?;
-    assert_eq!(rt; image.len(), 198);
-    let (words, text) = (RUN_OF_THREE, TEXT_OF_THREE);
-    let is_done = is_done_with(&rt, alloc, words, &three, &image, text, &BANK_OF_BOTH_FORMS)?;
-    assert!(rt; is_done);
+    let is_done = is_done_of_three(&rt, alloc, &three, &image, Known::BothForms)?;
+    assert_eq!(rt; (image.len(), is_done), (198, true));
     Ok(())
+}
+
+/// Whether the ancestor's run goes on from a bank with that group and leaves it as it is, or refuses it where the group
+/// does not fit.
+fn fits_or_differs<R: Threads + Wait + Sync>(
+    rt: &R,
+    alloc: Global,
+    group: &Kept,
+    fits: bool,
+) -> Result<bool, Fail> {
+    let image = bank_with(alloc, &SETUP_OF_ONE, group)?;
+    let words = "grow --quanta 34";
+    if fits {
+        let ended = call_over(rt, alloc, words, ANCESTOR, &image)?;
+        Ok(ended.is_done(GROWN) && sum_of(&ended.file(0)?) == sum_of(&image))
+    } else {
+        let fault = BankFault::Differs { group: 0 };
+        Ok(is_refused_unwritten(rt, alloc, words, ANCESTOR, &image, fault)?)
+    }
 }
 
 #[test]
@@ -577,23 +693,14 @@ fn a_group_that_does_not_fit_differs(rt: HostRuntime) -> Result<(), Fail> {
             ran,
             last,
         };
-        let image = bank_with(alloc, &SETUP_OF_ONE, &group)?;
-        let words = "grow --quanta 34";
-        let is_so = if fits {
-            let same = sum_of(&image);
-            is_done_with(&rt, alloc, words, ANCESTOR, &image, GROWN, &same)?
-        } else {
-            let fault = BankFault::Differs { group: 0 };
-            is_refused_unwritten(&rt, alloc, words, ANCESTOR, &image, fault)?
-        };
+        let is_so = fits_or_differs(&rt, alloc, &group, fits)?;
         assert!(rt;
             is_so,
             "form two {form_two}, quantum {quantum}, ran {ran}, last {last}"
         );
     }
-    let status = Status::BankRefused(BankFault::Differs { group: 0 });
-    let line = b"tierra: tierra.bank: group 0 differs from this run\n";
-    assert_eq!(rt; line_of(alloc, &status)?.as_slice(), line.as_slice());
+    let fault = BankFault::Differs { group: 0 };
+    assert!(rt; has_line(alloc, fault, ": group 0 differs from this run")?);
     Ok(())
 }
 
@@ -611,21 +718,26 @@ pub(crate) fn part_of(
     }
 }
 
+/// The bank of the three ancestors, with its first group in the place of the second one too.
+fn first_twice<R: Threads + Wait + Sync>(
+    rt: &R,
+    alloc: Global,
+    three: &str,
+) -> Result<Vec<u8>, Fail> {
+    let bank = bank_of(rt, alloc, RUN_OF_THREE, three, Known::Three)?;
+    let mut image = part_of(alloc, &bank, 0, 229)?;
+    image.extend_from_slice(&part_of(alloc, &bank, 44, 229)?)?;
+    image.push(0)?;
+    Ok(image)
+}
+
 #[test]
 fn the_lines_before_a_group_that_differs_are_told(rt: HostRuntime) -> Result<(), Fail> {
     let alloc = rt.alloc();
     let three = three_ancestors(alloc)?;
-    let bank = bank_of_three(&rt, alloc, &three)?;
-    // The first group stands in the place of the second one too.
-    let mut image = part_of(alloc, &bank, 0, 229)?;
-    image.extend_from_slice(&part_of(alloc, &bank, 44, 229)?)?;
-    image.push(0)?;
+    let image = first_twice(&rt, alloc, &three)?;
     let ended = call_over(&rt, alloc, RUN_OF_THREE, &three, &image)?;
-    assert_eq!(rt;
-        ended.status,
-        Status::BankRefused(BankFault::Differs { group: 1 })
-    );
-    assert_eq!(rt; ended.told.as_slice(), first_lines(1).as_bytes());
-    assert_eq!(rt; ended.calls.as_str(), "SLRT");
+    let want = Status::BankRefused(BankFault::Differs { group: 1 });
+    assert!(rt; is_end(&ended, &want, first_lines(1), "SLRT"));
     Ok(())
 }

@@ -1,6 +1,6 @@
 //! What is told of a genebank, and what leaves the disk alone.
 
-use crate::runs::{Kept, ZERO_FILE, bank_with, call_over, is_told, part_of};
+use crate::runs::{Kept, ZERO_FILE, bank_with, call_over, is_end, is_told, part_of};
 use bank_recover::BankFault;
 use soup_top::Status;
 use std::alloc::Global;
@@ -73,6 +73,18 @@ fn a_bank_is_told(rt: HostRuntime) -> Result<(), Fail> {
     Ok(())
 }
 
+/// Whether the first hundred bytes of a bank are refused as damaged.
+fn is_cut_refused<R: Threads + Wait + Sync>(
+    rt: &R,
+    alloc: Global,
+    bank: &[u8],
+) -> Result<bool, Fail> {
+    let cut = part_of(alloc, bank, 0, 100)?;
+    let ended = call_over(rt, alloc, "bank", "", &cut)?;
+    let want = Status::BankRefused(BankFault::Damaged { group: 0 });
+    Ok(is_end(&ended, &want, "", "LR"))
+}
+
 #[test]
 fn a_bank_is_told_without_a_source_or_a_setup(rt: HostRuntime) -> Result<(), Fail> {
     let alloc = rt.alloc();
@@ -83,17 +95,10 @@ fn a_bank_is_told_without_a_source_or_a_setup(rt: HostRuntime) -> Result<(), Fai
         last: 5,
     };
     let bank = bank_with(alloc, &[7; 32], &group)?;
-    assert_eq!(rt; bank.len(), 198);
-    let ended = call_over(&rt, alloc, "bank", "", &bank)?;
     let text = bank_text_of(alloc, "saved 0080aaa 34\nparent none\n")?;
-    assert!(rt; ended.is_done(&text));
-    let cut = part_of(alloc, &bank, 0, 100)?;
-    let ended = call_over(&rt, alloc, "bank", "", &cut)?;
-    assert_eq!(rt;
-        ended.status,
-        Status::BankRefused(BankFault::Damaged { group: 0 })
-    );
-    assert_eq!(rt; ended.calls.as_str(), "LR");
+    let is_so = is_told(&rt, alloc, "bank", "", &bank, &text, "LRT")?;
+    let is_refused = is_cut_refused(&rt, alloc, &bank)?;
+    assert_eq!(rt; (bank.len(), is_so, is_refused), (198, true, true));
     Ok(())
 }
 

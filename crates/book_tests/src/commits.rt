@@ -128,17 +128,23 @@ fn two_quanta<R: Abort, L: Ledger>(rt: &R, alloc: Global, blank: Blank) -> Resul
     let answers = run_two(rt, alloc, &mut book, &mut steps)?;
     let late = Offered::Late { committed: 2 };
     let want = [Offered::Kept, Offered::Twice, Offered::Committed(2), late];
-    assert_eq!(rt; answers, want);
-    assert!(rt; matches!(book.claim(alloc), Claim::Ended));
-    assert_eq!(rt; book.advance(alloc, 1, &mut steps), Advanced::Ended);
+    let is_ended = matches!(book.claim(alloc), Claim::Ended);
+    let advanced = book.advance(alloc, 1, &mut steps);
+    let entries = [entry_at(&book, 0), entry_at(&book, 1), entry_at(&book, 2)];
     let stale = How::Stale(Stale::Cell {
         at: 0,
         seen: 9,
         now: 26,
     });
-    assert_eq!(rt; entry_at(&book, 0), Some(entry(1, 1, How::Fresh)));
-    assert_eq!(rt; entry_at(&book, 1), Some(entry(2, 2, stale)));
-    assert_eq!(rt; entry_at(&book, 2), None);
+    let told = [
+        Some(entry(1, 1, How::Fresh)),
+        Some(entry(2, 2, stale)),
+        None,
+    ];
+    assert_eq!(rt;
+        (answers, is_ended, advanced, entries),
+        (want, true, Advanced::Ended, told)
+    );
     Ok(())
 }
 
@@ -167,26 +173,45 @@ fn the_second_is_stale_where_the_first_wrote(rt: HostRuntime) -> Result<(), Fail
     two_quanta::<_, Brand>(&rt, rt.alloc(), Blank::new(1))
 }
 
+/// What the commit of the first finding gives: the answer, how many quanta are committed then, what an advance answers
+/// where there was no memory for the commit, and the history's first entry.
+type First = (Offered, u64, Option<Advanced>, Option<Entry>);
+
 /// Offers the first finding. Where there is no memory for its commit, it is dropped, and the quantum is committed anew.
+fn commit_first<L: Ledger>(alloc: Global, steps: &mut Steps<L>) -> Result<First, Fail> {
+    let mut book = book_of(alloc, TWO, 2, 4)?;
+    let Some(first) = next_finding(alloc, &mut book, steps)? else {
+        return Err(Fail::from("no first job"));
+    };
+    let answer = offer(alloc, &mut book, first, 1, steps);
+    let committed = book.committed();
+    let advanced = if answer == Offered::OutOfMemory {
+        Some(book.advance(alloc, 1, steps))
+    } else {
+        None
+    };
+    Ok((answer, committed, advanced, entry_at(&book, 0)))
+}
+
 fn fresh_or_missing<R: Abort, L: Ledger>(rt: &R, alloc: Global, blank: Blank) -> Result<(), Fail>
     requires name { blank.name ≡ L.name }
     requires parts { blank.parts ≡ L.parts }
     requires some { 0 < L.parts }
 {
     let mut steps = Steps::<L>::start(blank);
-    let mut book = book_of(alloc, TWO, 2, 4)?;
-    let Some(first) = next_finding(alloc, &mut book, &mut steps)? else {
-        panic!(rt; "no first job")
-    };
-    let answer = offer(alloc, &mut book, first, 1, &mut steps);
-    if answer == Offered::OutOfMemory {
-        assert_eq!(rt; book.committed(), 0);
-        assert_eq!(rt; book.advance(alloc, 1, &mut steps), Advanced::Committed);
-        assert_eq!(rt; entry_at(&book, 0), Some(entry(1, 1, How::Missing)));
+    let seen = commit_first(alloc, &mut steps)?;
+    let missing = Some(entry(1, 1, How::Missing));
+    let want: First = if seen.1 == 0 {
+        (Offered::OutOfMemory, 0, Some(Advanced::Committed), missing)
     } else {
-        assert_eq!(rt; answer, Offered::Committed(1));
-        assert_eq!(rt; entry_at(&book, 0), Some(entry(1, 1, How::Fresh)));
-    }
+        (
+            Offered::Committed(1),
+            1,
+            None,
+            Some(entry(1, 1, How::Fresh)),
+        )
+    };
+    assert_eq!(rt; seen, want);
     Ok(())
 }
 

@@ -86,7 +86,7 @@ impl<'a> Hand for CountHand<'a> {
 }
 
 /// A book of a soup file, and a hand for it.
-pub(crate) fn begin<'a>(
+fn begin<'a>(
     alloc: Global,
     file: &str,
     quanta: u64,
@@ -113,6 +113,48 @@ pub(crate) fn begin<'a>(
     Ok((book, hand))
 }
 
+/// How many groups the hand has, how often `put` came with some group, and how often the hand halted.
+pub(crate) type Counts = [u64; 3];
+
+/// Runs a soup file with a hand.
+pub(crate) fn run<R: Threads + Wait + Sync, G: Gate + Sync>(
+    rt: &R,
+    alloc: Global,
+    file: &str,
+    quanta: u64,
+    workers: u32,
+    is_to_halt: bool,
+    gate: &G,
+    shown: &AtomicU64,
+) -> Result<(Ran, Counts), Fail>
+    requires quanta { (1 ≤ quanta) × (quanta ≤ 4000000) }
+    requires workers { (1 ≤ workers) × (workers ≤ 64) }
+{
+    let (book, mut hand) = begin(alloc, file, quanta, workers, is_to_halt, shown)?;
+    let ran = run_crew(rt, alloc, book, workers, gate, &mut hand);
+    Ok((ran, [hand.done, hand.puts, hand.halts]))
+}
+
+/// Runs a soup file to its end, with a hand that does not halt.
+pub(crate) fn run_to_end<R: Threads + Wait + Sync, G: Gate + Sync>(
+    rt: &R,
+    alloc: Global,
+    file: &str,
+    quanta: u64,
+    workers: u32,
+    gate: &G,
+    shown: &AtomicU64,
+) -> Result<(Book, Counts), Fail>
+    requires quanta { (1 ≤ quanta) × (quanta ≤ 4000000) }
+    requires workers { (1 ≤ workers) × (workers ≤ 64) }
+{
+    let (ran, counts) = run(rt, alloc, file, quanta, workers, false, gate, shown)?;
+    match ran {
+        Ran::Ended(book) => Ok((book, counts)),
+        Ran::Halted(_) | Ran::OutOfMemory => Err(Fail::from("the run did not end")),
+    }
+}
+
 /// How a quantum was committed: by whom, and how.
 pub(crate) type Line = (u64, How);
 
@@ -129,11 +171,8 @@ pub(crate) fn history_of<R: Threads + Wait + Sync, G: Gate + Sync>(
     requires workers { (1 ≤ workers) × (workers ≤ 64) }
 {
     let shown = AtomicU64::new(0);
-    let (book, mut hand) = begin(alloc, file, quanta, workers, false, &shown)?;
-    match run_crew(rt, alloc, book, workers, gate, &mut hand) {
-        Ran::Ended(book) => Ok(lines_of(alloc, &book)?),
-        Ran::Halted(_) | Ran::OutOfMemory => Err(Fail::from("the run did not end")),
-    }
+    let (book, _counts) = run_to_end(rt, alloc, file, quanta, workers, gate, &shown)?;
+    Ok(lines_of(alloc, &book)?)
 }
 
 fn lines_of(alloc: Global, book: &Book) -> Result<Vec<Line>, OutOfMemory> {

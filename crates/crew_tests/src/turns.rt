@@ -142,8 +142,9 @@ fn said_by(seat: &Seat) -> (u32, u64, Option<u64>) {
 type Joined = ([(u32, u64, Option<u64>); 2], Seat);
 
 fn take_turns<R: Wait>(rt: &R, lock: &TurnLock<Tally>, first: Seat, second: Seat) -> Joined
-    requires first { (first.lock ≡ lock.now) × (first.turns ≡ 0) × (first.last_caller ≡ Some 2) × IsSome (own_of first 1) }
-    requires second { (second.lock ≡ lock.now) × (second.turns ≡ 0) × IsSome (own_of second 2) }
+    requires first { (first.lock ≡ lock.now) × (first.turns ≡ 0) × (first.last_caller ≡ Some 2) }
+    requires callers { IsSome (own_of first 1) × IsSome (own_of second 2) }
+    requires second { (second.lock ≡ lock.now) × (second.turns ≡ 0) }
     ensures lock { result.1.lock ≡ lock.now }
     ensures all { SpeaksForAll result.1 }
 {

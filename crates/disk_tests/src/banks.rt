@@ -223,18 +223,23 @@ fn count_after(alloc: Global, desk: &MemDesk, pick: u32) -> Result<(usize, u64),
     Ok((groups, again.starved()))
 }
 
+// How many appends succeeded before a stop. And whether after each crash their groups are attached, at most one more,
+// and no call finds no memory.
+fn kept(alloc: Global, stop: u64) -> Result<(usize, [bool; 4]), Fail> {
+    let (desk, appended) = stopped(alloc, stop)?;
+    let mut is_kept = [false; 4];
+    for pick in 0..4u32 {
+        let (groups, starved) = count_after(alloc, &desk, pick)?;
+        is_kept[pick as usize] = appended <= groups && groups - appended <= 1 && starved == 0;
+    }
+    Ok((appended, is_kept))
+}
+
 #[test]
 fn a_stop_at_each_call_loses_nothing(rt: HostRuntime) -> Result<(), Fail> {
-    let alloc = rt.alloc();
     for stop in 1..=21u64 {
-        let (desk, appended) = stopped(alloc, stop)?;
         let want = (stop as usize).saturating_sub(9) / 4;
-        assert_eq!(rt; appended, want, "stop {stop}");
-        for pick in 0..4u32 {
-            let (groups, starved) = count_after(alloc, &desk, pick)?;
-            let kept = appended <= groups && groups <= appended + 1;
-            assert_eq!(rt; (kept, starved), (true, 0), "stop {stop}, crash {pick}");
-        }
+        assert_eq!(rt; kept(rt.alloc(), stop)?, (want, [true; 4]), "stop {stop}");
     }
     Ok(())
 }

@@ -35,40 +35,40 @@ fn is_left(desk: &MemDesk, pick: u32, image: &[u8]) -> Result<bool, Fail>
     Ok(desk.crash(pick)?.as_slice() == image)
 }
 
+// A desk whose calls fail from that one on: whether all succeeded, how many found no memory, and whether each crash
+// leaves its image.
+fn crashed(
+    alloc: Global,
+    stop: Option<u64>,
+    images: &[&[u8]; 4],
+) -> Result<(bool, u64, [bool; 4]), Fail> {
+    let (desk, done) = appended(alloc, stop)?;
+    let left = [
+        is_left(&desk, 0, images[0])?,
+        is_left(&desk, 1, images[1])?,
+        is_left(&desk, 2, images[2])?,
+        is_left(&desk, 3, images[3])?,
+    ];
+    Ok((done, desk.starved(), left))
+}
+
 #[test]
 fn a_crash_tears_the_writes_since_the_last_sync(rt: HostRuntime) -> Result<(), Fail> {
-    // The number of the call from which on all fail, and the images of the four crashes.
-    let rows: [(Option<u64>, [&[u8]; 4]); 5] = [
-        (
-            Some(1),
-            [&[9, 0], &[9, 0, 7, 0], &[9, 0, 255, 255], &[9, 0, 1, 1]],
-        ),
-        (
-            Some(2),
-            [&[9, 0], &[9, 0, 7, 0], &[9, 0, 255, 255], &[9, 0, 1, 1]],
-        ),
-        (
-            Some(3),
-            [&[9, 0, 7, 0], &[9, 1, 7, 0], &[9, 255, 7, 0], &[9, 1, 7, 0]],
-        ),
-        (
-            Some(4),
-            [&[9, 0, 7, 0], &[9, 1, 7, 0], &[9, 255, 7, 0], &[9, 1, 7, 0]],
-        ),
-        (
-            None,
-            [&[9, 1, 7, 0], &[9, 1, 7, 0], &[9, 1, 7, 0], &[9, 1, 7, 0]],
-        ),
+    // The images of the four crashes: with the bytes not yet synced, with the gate not yet synced, and with all synced.
+    let bytes: [&[u8]; 4] = [&[9, 0], &[9, 0, 7, 0], &[9, 0, 255, 255], &[9, 0, 1, 1]];
+    let gate: [&[u8]; 4] = [&[9, 0, 7, 0], &[9, 1, 7, 0], &[9, 255, 7, 0], &[9, 1, 7, 0]];
+    let all: [&[u8]; 4] = [&[9, 1, 7, 0], &[9, 1, 7, 0], &[9, 1, 7, 0], &[9, 1, 7, 0]];
+    // The number of the call from which on all fail, and these images.
+    let rows: [(Option<u64>, &[&[u8]; 4]); 5] = [
+        (Some(1), &bytes),
+        (Some(2), &bytes),
+        (Some(3), &gate),
+        (Some(4), &gate),
+        (None, &all),
     ];
     for (stop, images) in rows {
-        let (desk, done) = appended(rt.alloc(), stop)?;
-        assert_eq!(rt; (done, desk.starved()), (stop.is_none(), 0));
-        for pick in 0..4u32 {
-            assert!(rt;
-                is_left(&desk, pick, images[pick as usize])?,
-                "crash {pick}, {stop:?}"
-            );
-        }
+        let seen = crashed(rt.alloc(), stop, images)?;
+        assert_eq!(rt; seen, (stop.is_none(), 0, [true; 4]), "{stop:?}");
     }
     Ok(())
 }

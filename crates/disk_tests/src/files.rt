@@ -76,11 +76,11 @@ impl SteadyWrite for Narrow {
     ghost steady = { λ a b. refl };
 }
 
-// What an input of these turns gives: its bytes, the answer that ends them, and the faults.
-fn drain_turns(alloc: Global, turns: &[Turn<'_>]) -> Result<(Vec<u8>, Piece, u64), Fail> {
+// What an input of these turns gives: whether these are its bytes, the answer that ends them, and the faults.
+fn drain_turns(alloc: Global, turns: &[Turn<'_>], want: &[u8]) -> Result<(bool, Piece, u64), Fail> {
     let mut source = InputSource::new(Turns { turns, next: 0 });
     let (bytes, last) = drain(alloc, &mut source)?;
-    Ok((bytes, last, source.faults))
+    Ok((bytes.as_slice() == want, last, source.faults))
 }
 
 #[test]
@@ -111,26 +111,36 @@ fn an_input_is_read_to_its_end_or_its_failure(rt: HostRuntime) -> Result<(), Fai
         (&[again, broken], b"", Piece::Failed, 1),
     ];
     for (turns, want, last, faults) in rows {
-        let (got, end, failed) = drain_turns(rt.alloc(), turns)?;
-        assert_eq!(rt; (got.as_slice(), end, failed), (want, last, faults));
+        let seen = drain_turns(rt.alloc(), turns, want)?;
+        assert_eq!(rt; seen, (true, last, faults));
     }
     Ok(())
+}
+
+// What another run reads of the file: its length, four bytes at place 1, and whether a read past its end fails.
+fn read_back(rt: &HostRuntime) -> Result<(u64, [u8; 4], bool), Fail> {
+    let mut again = FileDesk::new(rt, BANK, Vec::new(rt.alloc()));
+    let len = again.len()?;
+    let mut buf = [0; 4];
+    again.read_at(1, &mut buf)?;
+    let mut past = [0; 4];
+    Ok((len, buf, again.read_at(2, &mut past).is_err()))
+}
+
+// Writes five bytes. Gives the length before, and what another run reads meanwhile.
+fn written(rt: &HostRuntime) -> Result<(u64, (u64, [u8; 4], bool)), Fail> {
+    let mut desk = FileDesk::new(rt, BANK, Vec::new(rt.alloc()));
+    let none = desk.len()?;
+    desk.write_at(0, b"bank")?;
+    desk.sync()?;
+    desk.write_at(4, b"!")?;
+    Ok((none, read_back(rt)?))
 }
 
 #[test]
 fn a_file_has_what_was_written(rt: HostRuntime) -> Result<(), Fail> {
     let _ = fs::remove_file(&rt, BANK);
-    let mut desk = FileDesk::new(&rt, BANK, Vec::new(rt.alloc()));
-    assert_eq!(rt; desk.len()?, 0);
-    desk.write_at(0, b"bank")?;
-    desk.sync()?;
-    desk.write_at(4, b"!")?;
-    let mut again = FileDesk::new(&rt, BANK, Vec::new(rt.alloc()));
-    assert_eq!(rt; again.len()?, 5);
-    let mut buf = [0; 4];
-    again.read_at(1, &mut buf)?;
-    assert_eq!(rt; buf, *b"ank!");
-    assert!(rt; again.read_at(2, &mut buf).is_err());
+    assert_eq!(rt; written(&rt)?, (0, (5, *b"ank!", true)));
     fs::remove_file(&rt, BANK)?;
     Ok(())
 }
@@ -168,6 +178,15 @@ fn a_look_makes_no_file(rt: HostRuntime) -> Result<(), Fail> {
     Ok(())
 }
 
+// The length of the file for a further run, which can read four bytes.
+fn len_again(rt: &HostRuntime) -> Result<u64, Fail> {
+    let mut again = FileDesk::new(rt, BANK, Vec::new(rt.alloc()));
+    let len = again.len()?;
+    let mut buf = [0; 4];
+    again.read_at(0, &mut buf)?;
+    Ok(len)
+}
+
 // Writes a file that two others read. Gives the lengths that they are told, and whether the first one fails to read,
 // since the file has grown.
 fn grown(rt: &HostRuntime) -> Result<(u64, u64, u64, bool), Fail> {
@@ -180,10 +199,7 @@ fn grown(rt: &HostRuntime) -> Result<(u64, u64, u64, bool), Fail> {
     run.write_at(4, b"!")?;
     let mut buf = [0; 4];
     let failed = reader.read_at(0, &mut buf).is_err();
-    let mut again = FileDesk::new(rt, BANK, Vec::new(rt.alloc()));
-    let five = again.len()?;
-    again.read_at(0, &mut buf)?;
-    Ok((none, four, five, failed))
+    Ok((none, four, len_again(rt)?, failed))
 }
 
 #[test]

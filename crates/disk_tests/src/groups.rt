@@ -52,24 +52,32 @@ fn read_and_written(
     Ok(((len, told), written(alloc, &group)?))
 }
 
+// The group of the ancestor from these parts, before other bytes: its length, what is read, and whether the same bytes
+// are written.
+fn there_and_back(
+    alloc: Global,
+    field: u32,
+    efforts: &[u64],
+    digest: &[u8; 32],
+) -> Result<(usize, (usize, (u64, Form, usize)), bool), Fail> {
+    let mut bytes = Vec::new(alloc);
+    push_group(&mut bytes, field, efforts, &ANCESTOR, digest)?;
+    let len = bytes.len();
+    bytes.extend_from_slice(&[1, 2, 3])?;
+    let (told, again) = read_and_written(alloc, &bytes)?;
+    bytes.truncate(len);
+    Ok((len, told, again.as_slice() == bytes.as_slice()))
+}
+
 #[test]
 fn groups_of_both_forms_are_read_and_written(rt: HostRuntime) -> Result<(), Fail> {
-    let alloc = rt.alloc();
     let rows: [(Form, u32, &[u64], &[u8; 32], usize); 2] = [
         (Form::One, 0x74, &[], &DIGEST_ONE, 152),
         (Form::Two, 0x8000_0094, &[839, 80, 0, 0], &DIGEST_TWO, 184),
     ];
     for (form, field, efforts, digest, len) in rows {
-        let mut bytes = Vec::new(alloc);
-        push_group(&mut bytes, field, efforts, &ANCESTOR, digest)?;
-        assert_eq!(rt; bytes.len(), len);
-        bytes.extend_from_slice(&[1, 2, 3])?;
-        let (told, again) = read_and_written(alloc, &bytes)?;
-        bytes.truncate(len);
-        assert_eq!(rt;
-            (told, again.as_slice()),
-            ((len, (34, form, 1)), bytes.as_slice())
-        );
+        let seen = there_and_back(rt.alloc(), field, efforts, digest)?;
+        assert_eq!(rt; seen, (len, (len, (34, form, 1)), true));
     }
     Ok(())
 }

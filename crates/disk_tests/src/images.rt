@@ -45,18 +45,33 @@ fn changed(alloc: Global, forms_two: &[bool], place: usize, byte: u8) -> Result<
     Ok(bank)
 }
 
+// How many groups such a bank has.
+fn count_changed(
+    alloc: Global,
+    forms_two: &[bool],
+    place: usize,
+    byte: u8,
+) -> Result<Result<usize, RecoverFault>, Fail> {
+    let bank = changed(alloc, forms_two, place, byte)?;
+    Ok(count_of(alloc, &bank))
+}
+
+// The fault of a bank with another first byte of its digest.
+fn foreign() -> BankFault {
+    let mut found = SETUP;
+    found[0] = 9;
+    let wanted = SETUP;
+    BankFault::Foreign { found, wanted }
+}
+
 #[test]
 fn one_byte_makes_another_bank(rt: HostRuntime) -> Result<(), Fail> {
     let alloc = rt.alloc();
     let forms = [false, true, false];
-    let mut found = SETUP;
-    found[0] = 9;
-    let wanted = SETUP;
-    let foreign = BankFault::Foreign { found, wanted };
     // The title, the digest, a code of group 1, the gate of group 1, and the first byte.
     let rows: [(usize, u8, Result<usize, BankFault>); 7] = [
         (1, 9, Err(BankFault::NotABank)),
-        (12, 9, Err(foreign)),
+        (12, 9, Err(foreign())),
         (45 + 153 + 40, 9, Err(BankFault::Damaged { group: 1 })),
         (44 + 153, 0, Ok(1)),
         (44 + 153, 2, Ok(1)),
@@ -65,7 +80,7 @@ fn one_byte_makes_another_bank(rt: HostRuntime) -> Result<(), Fail> {
     ];
     assert_eq!(rt; count_of(alloc, &bank_of(alloc, &forms)?), Ok(3));
     for (place, byte, want) in rows {
-        let count = count_of(alloc, &changed(alloc, &forms, place, byte)?);
+        let count = count_changed(alloc, &forms, place, byte)?;
         assert_eq!(rt; count, want.map_err(RecoverFault::Refused), "{place}");
     }
     Ok(())

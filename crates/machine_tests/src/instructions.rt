@@ -142,6 +142,27 @@ fn pushes_each_register(rt: HostRuntime) -> Result<(), Fail> {
     Ok(())
 }
 
+// Where an if_cz leads.
+fn after_if_cz(rt: &impl Abort, alloc: Global, ip: u32, cx: i32) -> Result<u32, AllocError> {
+    let mut creature = Creature {
+        ip,
+        cx,
+        ..newborn()
+    };
+    let _ = run(rt, alloc, &mut creature, &[5], NONE, STILL, 1)?;
+    Ok(creature.ip)
+}
+
+// Where a ret leads with this word all over the stack, and the place on the stack after it.
+fn after_ret(rt: &impl Abort, alloc: Global, word: i32) -> Result<(u32, u32), AllocError> {
+    let mut creature = Creature {
+        stack: [word; 10],
+        ..newborn()
+    };
+    let _ = run(rt, alloc, &mut creature, &[0x17], NONE, STILL, 1)?;
+    Ok((creature.ip, creature.sp))
+}
+
 #[test]
 fn goes_on(rt: HostRuntime) -> Result<(), Fail> {
     let alloc = rt.alloc();
@@ -154,22 +175,15 @@ fn goes_on(rt: HostRuntime) -> Result<(), Fail> {
         (98, 1, 0),
         (99, 1, 1),
     ] {
-        let mut creature = Creature {
-            ip,
-            cx,
-            ..newborn()
-        };
-        let _ = run(&rt, alloc, &mut creature, &[5], NONE, STILL, 1)?;
-        assert_eq!(rt; creature.ip, want, "if_cz at {ip}, cx {cx}");
+        assert_eq!(rt;
+            after_if_cz(&rt, alloc, ip, cx)?,
+            want,
+            "if_cz at {ip}, cx {cx}"
+        );
     }
     // ret: the word on the stack, and where it goes
     for (word, want) in [(7, 7), (99, 99), (100, 0), (250, 50), (-1, 99), (-100, 0)] {
-        let mut creature = Creature {
-            stack: [word; 10],
-            ..newborn()
-        };
-        let _ = run(&rt, alloc, &mut creature, &[0x17], NONE, STILL, 1)?;
-        assert_eq!(rt; (creature.ip, creature.sp), (want, 9), "ret to {word}");
+        assert_eq!(rt; after_ret(&rt, alloc, word)?, (want, 9), "ret to {word}");
     }
     Ok(())
 }
@@ -235,6 +249,20 @@ fn the_cell_after_the_last_is_cell_0(rt: HostRuntime) -> Result<(), Fail> {
     Ok(())
 }
 
+// The act of a search for an address, and what it leaves in the registers, the ip, the flag and the errors.
+fn found_by(
+    rt: &impl Abort,
+    alloc: Global,
+    code: u8,
+    at: usize,
+    draws: (u32, u32, u32),
+) -> Result<(Act, Registers, (u32, u8, u64)), AllocError> {
+    let mut creature = Creature { cx: 3, ..newborn() };
+    let act = run(rt, alloc, &mut creature, &[code, 0, 8], (at, 1), draws, 1)?;
+    let rest = (creature.ip, creature.flag, creature.errors);
+    Ok((act, registers(&creature), rest))
+}
+
 #[test]
 fn finds_addresses(rt: HostRuntime) -> Result<(), Fail> {
     let alloc = rt.alloc();
@@ -249,23 +277,11 @@ fn finds_addresses(rt: HostRuntime) -> Result<(), Fail> {
         (0x1d, 3, 1, 1, 3),
     ];
     for (code, at, rate, i, want) in rows {
-        let mut creature = Creature { cx: 3, ..newborn() };
-        let act = run(
-            &rt,
-            alloc,
-            &mut creature,
-            &[code, 0, 8],
-            (at, 1),
-            (rate, 0, i),
-            1,
-        )?;
-        assert_eq!(rt; act, Act::Plain);
         assert_eq!(rt;
-            registers(&creature),
-            (want, 0, 3, 0),
+            found_by(&rt, alloc, code, at, (rate, 0, i))?,
+            (Act::Plain, (want, 0, 3, 0), (1, 0, 0)),
             "code {code}, nop_1 at {at}, rate {rate}"
         );
-        assert_eq!(rt; (creature.ip, creature.flag, creature.errors), (1, 0, 0));
     }
     Ok(())
 }

@@ -44,6 +44,22 @@ impl Barrier {
             is_limit_met: AtomicBool::new(false),
         }
     }
+
+    /// Whether some worker never came.
+    fn is_limit_met(&self) -> bool {
+        self.is_limit_met.load(Ordering::SeqCst)
+    }
+
+    /// Which workers came.
+    fn came(&self) -> [bool; 4] {
+        let befores = self.befores.each_ref();
+        befores.map(|calls| calls.load(Ordering::SeqCst) > 0)
+    }
+
+    /// The calls of `before` by worker 1, and those of `after`.
+    fn calls(&self) -> [u64; 2] {
+        [&self.befores[1], &self.afters].map(|calls| calls.load(Ordering::SeqCst))
+    }
 }
 
 impl Gate for Barrier {
@@ -88,13 +104,11 @@ fn each_worker_has_a_job_before_any_is_run(rt: HostRuntime) -> Result<(), Fail> 
     ] {
         let gate = Barrier::new(3);
         let status = run_gated(&rt, rt.alloc(), words, TWO, &[], &gate)?;
-        assert_eq!(rt; status, Status::Done, "{words}");
-        assert!(rt; !gate.is_limit_met.load(Ordering::SeqCst), "{words}");
-        let counts = gate
-            .befores
-            .each_ref()
-            .map(|calls| calls.load(Ordering::SeqCst) > 0);
-        assert_eq!(rt; counts, [false, true, true, true], "{words}");
+        assert_eq!(rt;
+            (status, gate.is_limit_met(), gate.came()),
+            (Status::Done, false, [false, true, true, true]),
+            "{words}"
+        );
     }
     Ok(())
 }
@@ -104,9 +118,11 @@ fn one_worker_has_a_job_for_each_quantum(rt: HostRuntime) -> Result<(), Fail> {
     for words in ["run --quanta 200", "watch --quanta 200 --looks 3"] {
         let gate = Barrier::new(1);
         let status = run_gated(&rt, rt.alloc(), words, TWO, &[], &gate)?;
-        assert_eq!(rt; status, Status::Done, "{words}");
-        let calls = [&gate.befores[1], &gate.afters].map(|calls| calls.load(Ordering::SeqCst));
-        assert_eq!(rt; calls, [200, 200], "{words}");
+        assert_eq!(rt;
+            (status, gate.calls()),
+            (Status::Done, [200, 200]),
+            "{words}"
+        );
     }
     Ok(())
 }
@@ -127,6 +143,11 @@ impl WindowGate {
             sixths: AtomicU64::new(0),
             is_limit_met: AtomicBool::new(false),
         }
+    }
+
+    /// Whether what some worker waited for never happened.
+    fn is_limit_met(&self) -> bool {
+        self.is_limit_met.load(Ordering::SeqCst)
     }
 
     fn hold(&self, count: &AtomicU64) {
@@ -169,7 +190,6 @@ fn four_jobs_are_out_with_two_workers(rt: HostRuntime) -> Result<(), Fail> {
     let gate = WindowGate::new();
     let words = "run --quanta 40 --workers 2";
     let status = run_gated(&rt, alloc, words, &source, &[1], &gate)?;
-    assert_eq!(rt; status, Status::TellFault);
-    assert!(rt; !gate.is_limit_met.load(Ordering::SeqCst));
+    assert_eq!(rt; (status, gate.is_limit_met()), (Status::TellFault, false));
     Ok(())
 }

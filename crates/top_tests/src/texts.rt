@@ -1,11 +1,12 @@
 //! Texts of the top call, however their bytes come, and what is refused.
 
+use crate::runs::tells;
 use soup_top::{SourceFault, Status};
 use std::alloc::Global;
 use std::sync::Wait;
 use std::test::Fail;
 use std::thread::Threads;
-use test_calls::{Given, PLAIN, call, call_with};
+use test_calls::{Ended, Given, PLAIN, call, call_with};
 use test_soups::{ANCESTOR, ANCESTOR_HEX, GROWN, ancestor_file};
 use tierra_asm::AsmFault;
 use tierra_dis::{DisFault, HexFault};
@@ -33,6 +34,19 @@ fn the_first_listing_runs_however_its_bytes_come(rt: HostRuntime) -> Result<(), 
     Ok(())
 }
 
+/// A call's answer, and how many bytes it tells.
+pub(crate) fn answer<R: Threads + Wait + Sync>(
+    rt: &R,
+    alloc: Global,
+    words: &str,
+    source: &str,
+    given: &Given<'_>,
+) -> Result<(Status, usize), OutOfMemory> {
+    let ended = call_with(rt, alloc, words, source.as_bytes(), given)?;
+    let told = ended.told.len();
+    Ok((ended.status, told))
+}
+
 #[test]
 fn a_read_that_fails_tells_nothing(rt: HostRuntime) -> Result<(), Fail> {
     for number in [1u64, 2, 3, 4] {
@@ -41,9 +55,8 @@ fn a_read_that_fails_tells_nothing(rt: HostRuntime) -> Result<(), Fail> {
             reads: &[number],
             ..PLAIN
         };
-        let ended = call_with(&rt, rt.alloc(), FIRST_RUN, FIRST.as_bytes(), &given)?;
-        assert_eq!(rt; ended.status, Status::ReadFault, "read {number}");
-        assert_eq!(rt; ended.told.len(), 0, "read {number}");
+        let answer = answer(&rt, rt.alloc(), FIRST_RUN, FIRST, &given)?;
+        assert_eq!(rt; answer, (Status::ReadFault, 0), "read {number}");
     }
     Ok(())
 }
@@ -59,19 +72,20 @@ fn with_tell<R: Threads + Wait + Sync>(
         tells: &[number],
         ..PLAIN
     };
-    let ended = call_with(rt, alloc, words, FIRST.as_bytes(), &given)?;
-    let told = !ended.told.is_empty();
-    Ok((ended.status, told))
+    let (status, told) = answer(rt, alloc, words, FIRST, &given)?;
+    Ok((status, told > 0))
 }
 
 #[test]
 fn a_tell_that_fails_is_the_answer(rt: HostRuntime) -> Result<(), Fail> {
     for words in [FIRST_RUN, "asm"] {
-        let failed = with_tell(&rt, rt.alloc(), words, 1)?;
-        assert_eq!(rt; failed, (Status::TellFault, false), "{words}");
         // The whole text is one tell, so there is no second one to fail.
-        let done = with_tell(&rt, rt.alloc(), words, 2)?;
-        assert_eq!(rt; done, (Status::Done, true), "{words}");
+        let answers = (
+            with_tell(&rt, rt.alloc(), words, 1)?,
+            with_tell(&rt, rt.alloc(), words, 2)?,
+        );
+        let want = ((Status::TellFault, false), (Status::Done, true));
+        assert_eq!(rt; answers, want, "{words}");
     }
     Ok(())
 }
@@ -94,8 +108,10 @@ fn texts_are_told_whole(rt: HostRuntime) -> Result<(), Fail> {
         ("dis", "04;02", "zero\n"),
     ];
     for (words, bytes, text) in rows {
-        let ended = call(&rt, rt.alloc(), words, bytes)?;
-        assert!(rt; ended.is_done(text), "{words} of {bytes}");
+        assert!(rt;
+            tells(&rt, rt.alloc(), words, bytes, text)?,
+            "{words} of {bytes}"
+        );
     }
     Ok(())
 }
@@ -145,27 +161,35 @@ fn the_longest_code_has_20000_instructions(rt: HostRuntime) -> Result<(), Fail> 
     let alloc = rt.alloc();
     let digits = repeated(alloc, "04 ", 20_000)?;
     let listing = repeated(alloc, "zero\n", 20_000)?;
-    assert!(rt; call(&rt, alloc, "dis", &digits)?.is_done(&listing));
-    let ended = call(&rt, alloc, "asm", &listing)?;
-    assert_eq!(rt; ended.status, Status::Done);
-    assert_eq!(rt; ended.told.len(), 60_000);
+    assert!(rt; tells(&rt, alloc, "dis", &digits, &listing)?);
+    let answer = answer(&rt, alloc, "asm", &listing, &PLAIN)?;
+    assert_eq!(rt; answer, (Status::Done, 60_000));
     Ok(())
+}
+
+/// The answer where so many copies of a text are the source.
+fn answer_to_copies<R: Threads + Wait + Sync>(
+    rt: &R,
+    alloc: Global,
+    words: &str,
+    text: &str,
+    copies: u16,
+) -> Result<Status, OutOfMemory> {
+    let source = repeated(alloc, text, copies)?;
+    let (status, _told) = answer(rt, alloc, words, &source, &PLAIN)?;
+    Ok(status)
 }
 
 #[test]
 fn a_longer_code_is_refused(rt: HostRuntime) -> Result<(), Fail> {
-    let alloc = rt.alloc();
-    let digits = repeated(alloc, "04 ", 20_001)?;
-    assert_eq!(rt;
-        call(&rt, alloc, "dis", &digits)?.status,
-        Status::SourceRefused(SourceFault::Hex(HexFault::TooLong))
-    );
-    let listing = repeated(alloc, "zero\n", 20_001)?;
+    let of_digits = answer_to_copies(&rt, rt.alloc(), "dis", "04 ", 20_001)?;
+    let of_listing = answer_to_copies(&rt, rt.alloc(), "asm", "zero\n", 20_001)?;
     let too_long = AsmFault::TooLong { line: 20_001 };
-    assert_eq!(rt;
-        call(&rt, alloc, "asm", &listing)?.status,
-        Status::SourceRefused(SourceFault::Listing(too_long))
+    let want = (
+        Status::SourceRefused(SourceFault::Hex(HexFault::TooLong)),
+        Status::SourceRefused(SourceFault::Listing(too_long)),
     );
+    assert_eq!(rt; (of_digits, of_listing), want);
     Ok(())
 }
 
@@ -185,14 +209,24 @@ fn options_come_in_any_order(rt: HostRuntime) -> Result<(), Fail> {
         ("grow --workers 1", FIRST, later),
     ];
     for (words, source, text) in rows {
-        assert!(rt; call(&rt, alloc, words, source)?.is_done(text), "{words}");
+        assert!(rt; tells(&rt, alloc, words, source, text)?, "{words}");
     }
     Ok(())
 }
 
+/// Whether the words are refused with the usage, and nothing is told.
+fn are_refused<R: Threads + Wait + Sync>(
+    rt: &R,
+    alloc: Global,
+    words: &str,
+) -> Result<bool, OutOfMemory> {
+    let ended = call(rt, alloc, words, "zero")?;
+    let is_usage = ended.line(alloc)?.as_slice() == USAGE.as_bytes();
+    Ok(is_usage && ended.told.is_empty() && ended.status == Status::WordsRefused)
+}
+
 #[test]
 fn other_words_are_refused(rt: HostRuntime) -> Result<(), Fail> {
-    let alloc = rt.alloc();
     for words in [
         "",
         "sow",
@@ -219,12 +253,15 @@ fn other_words_are_refused(rt: HostRuntime) -> Result<(), Fail> {
         "drill --workers 1",
         "drill --number 18446744073709551616",
     ] {
-        let ended = call(&rt, alloc, words, "zero")?;
-        assert_eq!(rt; ended.status, Status::WordsRefused, "{words}");
-        assert_eq!(rt; ended.told.len(), 0, "{words}");
-        assert_eq!(rt; ended.line(alloc)?.as_slice(), USAGE.as_bytes(), "{words}");
+        assert!(rt; are_refused(&rt, rt.alloc(), words)?, "{words}");
     }
     Ok(())
+}
+
+/// Whether that reason is the call's line for standard error.
+pub(crate) fn gives(alloc: Global, ended: &Ended, reason: &str) -> Result<bool, OutOfMemory> {
+    let line = format!(in alloc; "tierra: {reason}\n")?;
+    Ok(ended.line(alloc)?.as_slice() == line.as_bytes())
 }
 
 /// Whether the words refuse the source for the fault, with the reason on one line.
@@ -237,11 +274,7 @@ fn is_refused<R: Threads + Wait + Sync>(
     reason: &str,
 ) -> Result<bool, OutOfMemory> {
     let ended = call_with(rt, alloc, words, source, &PLAIN)?;
-    let line = format!(in alloc; "tierra: {reason}\n")?;
-    Ok(
-        ended.status == Status::SourceRefused(fault)
-            && ended.line(alloc)?.as_slice() == line.as_bytes(),
-    )
+    Ok(ended.status == Status::SourceRefused(fault) && gives(alloc, &ended, reason)?)
 }
 
 #[test]
