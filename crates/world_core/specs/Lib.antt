@@ -6,3 +6,4 @@ pub mod Tied
 pub mod Starting
 pub mod Prepared
 pub mod Groups
+pub mod Parts

@@ -11,6 +11,7 @@ ghost use Rattle.tierra_model.specs.Sound.{IsPlaced, IsSound, Ordered, owners, t
 ghost use Rattle.census.specs.Census.{living_of};
 ghost use Rattle.world_state.specs.Checks.{covers};
 ghost use Rattle.world_state.specs.Reading.{genotypes_of};
+ghost use Rattle.world_core.specs.Parts.{AreOf};
 ghost use Rattle.world_core.specs.Population.{entries_of};
 ghost use Rattle.world_core.specs.Running.{number_with};
 
@@ -34,30 +35,61 @@ pub(crate) fn world_from(alloc: Global, draft: Draft) -> Result<World, OutOfMemo
     requires { IsSound draft }
     ensures { IfOk result (λ w. w.world ≡ draft) }
 {
+    let parts = parts_from(alloc, &draft)?;
+    let running = joined(draft, parts);
+    running.finish(alloc)
+}
+
+// The parts of a world that a draft has in another form.
+#[derive(Drop)]
+struct Parts {
+    census: Census,
+    blocks: Blocks,
+    genotypes: Genotypes,
+    soup: Soup,
+    population: Population,
+}
+
+fn parts_from(alloc: Global, draft: &Draft) -> Result<Parts, OutOfMemory>
+    requires { IsSound draft.now }
+    ensures { IfOk result (λ parts. AreOf draft.now parts) }
+{
     let size = draft.settings.soup_size;
-    let soup = soup_from(alloc, size, &draft.cells)?;
-    let population = population_from(alloc, &draft.living, &draft.slicer, &draft.reaper)?;
-    let blocks = blocks_from(alloc, size, &draft.living)?;
-    let census = census_from(alloc, &draft.living)?;
+    let living = draft.living.as_slice();
+    let census = census_from(alloc, living)?;
+    let blocks = blocks_from(alloc, size, living)?;
     let genotypes = all_genotypes(alloc, &draft.stored)?;
-    let genes = Genes::of(genotypes, draft.saved);
+    let soup = soup_from(alloc, size, &draft.cells)?;
+    let population = population_from(alloc, living, &draft.slicer, &draft.reaper)?;
+    Ok(Parts {
+        census,
+        blocks,
+        genotypes,
+        soup,
+        population,
+    })
+}
+
+// A draft's parts together, with its counts and savings.
+fn joined(draft: Draft, parts: Parts) -> Running
+    requires { AreOf draft parts }
+    ensures { result.world ≡ draft }
+{
     let counts = Counts {
         births: draft.births,
         deaths: draft.deaths,
         next_birth: draft.next_birth,
         quanta: draft.quanta,
     };
-    let running = Running::of(
+    Running::of(
         draft.settings,
-        soup,
-        population,
-        blocks,
-        genes,
-        census,
+        parts.soup,
+        parts.population,
+        parts.blocks,
+        Genes::of(parts.genotypes, draft.saved),
+        parts.census,
         counts,
-    );
-    let world = running.finish(alloc)?;
-    Ok(world)
+    )
 }
 
 fn soup_from(alloc: Global, size: u32, cells: &[u8]) -> Result<Soup, OutOfMemory>
