@@ -1,5 +1,6 @@
 -- The command of the program, as clap's definitions see it.
 use Rattle.std.specs.Prelude.{List, true, Option, Some, codes}
+use Rattle.std.specs.List.{fold}
 use Rattle.clap.specs.Walk.{Rule, Text, first_of}
 use Rattle.clap.specs.Simple.{App, Shape, matches_of, new_app, new_rule, on_top, with_rule}
 
@@ -14,6 +15,9 @@ start_app = on_top (λ (s : Shape). record s { no_binary_name = true; disable_he
 
 abbrev pub with_option : App → Text → App
 with_option app name = with_rule app (option_rule name)
+
+abbrev pub with_options : App → List Text → App
+with_options app names = fold with_option app names
 
 -- one positional argument, and the options that a run or a drill may have
 abbrev pub basic_app : App

@@ -2,7 +2,7 @@
 
 ghost use Rattle.std.specs.Prelude.{◌≡◌, ◌≢◌, [], false, IfOk, IsErrOf, map, string_bytes};
 ghost use Rattle.clap.specs.Words.{app_of, fault_of, rule_of};
-ghost use Rattle.soup_words.specs.Split.{basic_app, option_rule, split_of, start_app, tierra_app};
+ghost use Rattle.soup_words.specs.Split.{option_rule, split_of, start_app, tierra_app, with_options};
 
 use crate::order::WordsFault;
 use clap::error::ErrorKind;
@@ -75,22 +75,14 @@ pub(crate) fn split_words<'a>(alloc: Global, words: &'a [String]) -> Result<Spli
 fn command<'a>(alloc: Global) -> Result<Command<'a>, AllocError>
     ensures { IfOk result (λ c. app_of c ≡ tierra_app) }
 {
-    basic_command(alloc)?
-        .arg(option(alloc, "every"))?
-        .arg(option(alloc, "looks"))?
-        .arg(option(alloc, "isles"))?
-        .arg(option(alloc, "epochs"))
-}
-
-/// The action, and the options that a run or a drill may have.
-fn basic_command<'a>(alloc: Global) -> Result<Command<'a>, AllocError>
-    ensures { IfOk result (λ c. app_of c ≡ basic_app) }
-{
-    start(alloc)
-        .arg(Arg::new(alloc, "action"))?
-        .arg(option(alloc, "quanta"))?
-        .arg(option(alloc, "workers"))?
-        .arg(option(alloc, "number"))
+    let command = start(alloc).arg(Arg::new(alloc, "action"))?;
+    with_options(
+        alloc,
+        command,
+        &[
+            "quanta", "workers", "number", "every", "looks", "isles", "epochs",
+        ],
+    )
 }
 
 fn start<'a>(alloc: Global) -> Command<'a>
@@ -99,6 +91,20 @@ fn start<'a>(alloc: Global) -> Command<'a>
     Command::new(alloc, "tierra")
         .no_binary_name(true)
         .disable_help_flag(true)
+}
+
+fn with_options<'a>(
+    alloc: Global,
+    command: Command<'a>,
+    names: &[&'a str],
+) -> Result<Command<'a>, AllocError>
+    ensures { IfOk result (λ c. app_of c ≡ with_options (app_of command.entry) (map (λ n. n.now) names.entry.now)) }
+{
+    let mut command = command;
+    for name in names {
+        command = command.arg(option(alloc, name))?;
+    }
+    Ok(command)
 }
 
 fn option<'a>(alloc: Global, name: &'a str) -> Arg<'a>
