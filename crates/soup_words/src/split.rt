@@ -10,6 +10,11 @@ use clap::{Arg, Command};
 use std::alloc::{AllocError, Global};
 use std::marker::Model;
 
+/// The names of the options.
+const OPTIONS: [&str; 7] = [
+    "quanta", "workers", "number", "every", "looks", "isles", "epochs",
+];
+
 /// The text of each argument that the words have.
 #[derive(Drop)]
 pub(crate) struct Split<'a> {
@@ -76,13 +81,7 @@ fn command<'a>(alloc: Global) -> Result<Command<'a>, AllocError>
     ensures { IfOk result (λ c. app_of c ≡ tierra_app) }
 {
     let command = start(alloc).arg(Arg::new(alloc, "action"))?;
-    with_options(
-        alloc,
-        command,
-        &[
-            "quanta", "workers", "number", "every", "looks", "isles", "epochs",
-        ],
-    )
+    with_options(alloc, command, &OPTIONS)
 }
 
 fn start<'a>(alloc: Global) -> Command<'a>
@@ -93,6 +92,7 @@ fn start<'a>(alloc: Global) -> Command<'a>
         .disable_help_flag(true)
 }
 
+/// Adds an option of each name.
 fn with_options<'a>(
     alloc: Global,
     command: Command<'a>,
