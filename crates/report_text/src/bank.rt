@@ -1,6 +1,7 @@
 //! The texts of a genebank.
 
 ghost use Rattle.std.specs.Prelude.{◌≡◌, ◌++◌, IfOk, OnOk};
+ghost use Rattle.hex.specs.Hex.{encode_lower};
 ghost use Rattle.genotyper.specs.Names.{name_text};
 ghost use Rattle.report_text.specs.Bank.{bank_text, code_line, effort_line, genotype_text, group_text, parent_line, saved_line};
 
@@ -64,10 +65,15 @@ fn add_saved(
 ) -> Result<(), OutOfMemory>
     ensures { OnOk result (text.new.items ≡ text.old.items ++ saved_line name.now quantum) }
 {
-    let end = format!(in alloc; " {quantum}\n")?;
     text.extend_from_slice(b"saved ")?;
-    text.extend_from_slice(&name_text(alloc, name)?.items)?;
-    text.extend_from_slice(end.as_bytes())
+    add_name(alloc, text, name)?;
+    text.extend_from_slice(format!(in alloc; " {quantum}\n")?.as_bytes())
+}
+
+pub(crate) fn add_name(alloc: Global, text: &mut Vec<u8>, name: &Name) -> Result<(), OutOfMemory>
+    ensures { OnOk result (text.new.items ≡ text.old.items ++ name_text name.now) }
+{
+    text.extend_from_slice(&name_text(alloc, name)?.items)
 }
 
 fn add_parent(alloc: Global, text: &mut Vec<u8>, parent: &Option<Name>) -> Result<(), OutOfMemory>
@@ -76,9 +82,8 @@ fn add_parent(alloc: Global, text: &mut Vec<u8>, parent: &Option<Name>) -> Resul
     match parent {
         Some(name) => {
             text.extend_from_slice(b"parent ")?;
-            text.extend_from_slice(&name_text(alloc, name)?.items)?;
-            text.push(b'\n')?;
-            Ok(())
+            add_name(alloc, text, name)?;
+            text.extend_from_slice(b"\n")
         }
         None => text.extend_from_slice(b"parent none\n"),
     }
@@ -103,7 +108,13 @@ fn add_code(alloc: Global, text: &mut Vec<u8>, code: &Code) -> Result<(), OutOfM
     ensures { OnOk result (text.new.items ≡ text.old.items ++ code_line code.now) }
 {
     text.extend_from_slice(b"code ")?;
-    text.extend_from_slice(hex::encode(alloc, code.items.as_slice())?.as_bytes())?;
-    text.push(b'\n')?;
-    Ok(())
+    add_hex(alloc, text, &code.items)?;
+    text.extend_from_slice(b"\n")
+}
+
+/// Two lower-case hexadecimal digits for each byte.
+pub(crate) fn add_hex(alloc: Global, text: &mut Vec<u8>, bytes: &[u8]) -> Result<(), OutOfMemory>
+    ensures { OnOk result (text.new.items ≡ text.old.items ++ encode_lower bytes.now) }
+{
+    text.extend_from_slice(hex::encode(alloc, bytes)?.as_bytes())
 }

@@ -6,8 +6,9 @@ ghost use Rattle.tierra_model.specs.Living.{one_of};
 ghost use Rattle.tierra_model.specs.Sound.{IsSound};
 ghost use Rattle.report_text.specs.Dump.{body_text, cell_text, creature_line, creature_lines, daughter_text, dump, id_text, place_text, reaper_line, registers_text, row_line, row_lines, state_line};
 
+use crate::bank::{add_hex, add_name};
 use crate::world_report::{add_count, add_processor, report};
-use genotyper::{Genotypes, name_text};
+use genotyper::Genotypes;
 use sha2::{Digest, Sha256};
 use std::alloc::Global;
 use std::fmt::Write;
@@ -68,9 +69,8 @@ fn add_creature(
     let mut line = String::new(alloc);
     add_body(&mut line, creature)?;
     add_registers(&mut line, creature)?;
-    let name = genotypes.name_of(creature.genotype);
     text.extend_from_slice(line.as_bytes())?;
-    text.extend_from_slice(&name_text(alloc, &name)?.items)?;
+    add_name(alloc, text, &genotypes.name_of(creature.genotype))?;
     text.push(b'\n')?;
     Ok(())
 }
@@ -223,7 +223,7 @@ pub fn state_line(alloc: Global, world: &World) -> Result<Text, OutOfMemory>
     let digest = Sha256::digest(bytes.items.as_slice());
     let mut items = Vec::new(alloc);
     items.extend_from_slice(b"state ")?;
-    items.extend_from_slice(hex::encode(alloc, digest.as_slice())?.as_bytes())?;
+    add_hex(alloc, &mut items, &digest)?;
     items.push(b'\n')?;
     Ok(Text { items })
 }

@@ -7,7 +7,7 @@ ghost use Rattle.tierra_model.specs.Report.{counts_text, front_text, processor_t
 ghost use Rattle.genotyper.specs.Names.{name_text};
 ghost use Rattle.report_text.specs.Report.{genotype_line, line_of, report};
 
-use genotyper::name_text;
+use crate::bank::add_name;
 use std::alloc::Global;
 use std::fmt::Write;
 use tierra_model::{Creature, Name, Now, OutOfMemory, Text};
@@ -91,12 +91,9 @@ pub(crate) fn add_processor(text: &mut String, creature: &Creature) -> Result<()
 fn add_front(text: &mut String, creature: &Creature) -> Result<(), OutOfMemory>
     ensures { OnOk result (string_bytes text.new ≡ string_bytes text.old ++ front_text creature.now) }
 {
-    add_count(text, "front ", creature.id)?;
-    text.push_str(" ")?;
+    write!(text, "front {} ", creature.id)?;
     add_processor(text, creature)?;
-    add_count(text, " flag ", u64::from(creature.flag))?;
-    add_count(text, " errors ", creature.errors)?;
-    text.push_str("\n")
+    write!(text, " flag {} errors {}\n", creature.flag, creature.errors)
 }
 
 fn add_genotypes(alloc: Global, text: &mut Vec<u8>, world: &World) -> Result<(), OutOfMemory>
@@ -137,7 +134,6 @@ fn add_line(
     if living == 0 {
         return Ok(());
     }
-    let end = format!(in alloc; " {living} {total}\n")?;
-    text.extend_from_slice(&name_text(alloc, name)?.items)?;
-    text.extend_from_slice(end.as_bytes())
+    add_name(alloc, text, name)?;
+    text.extend_from_slice(format!(in alloc; " {living} {total}\n")?.as_bytes())
 }
