@@ -1,6 +1,6 @@
 -- A book whose quanta are run in its own world, while no finding is kept, stays a book.
 use Rattle.std.proofs.Common.{◌≡◌, ℕ, zero, suc, ◌+◌, ◌<◌, ◌≤◌, List, [], ◌∷◌, ◌++◌, refl, sym, ◌∙◌, ap, subst, arith, length}
-use Rattle.std.specs.Prelude.{None, Option, drop, max, replicate, slice_index_or}
+use Rattle.std.specs.Prelude.{None, Option, drop, max, replicate, slice_index_or, ◌⊎◌}
 use Rattle.tierra_model.specs.declared.history.Entry.{Entry}
 use Rattle.tierra_model.specs.declared.history.How.TheVariants as how
 use Rattle.tierra_model.specs.Findings.{Finding}
@@ -10,9 +10,11 @@ use Rattle.tierra_model.specs.Setups.{IsSetup}
 use Rattle.tierra_model.specs.Sound.{IsSound}
 use Rattle.tierra_model.specs.World.{World, first_of, front}
 use Rattle.tierra_model.proofs.StartIsSound.{serial_is_sound}
+use Rattle.commit_book.specs.Alone.{CanRun, Pauses}
 use Rattle.commit_book.specs.Book.{BookFields, how_of, next_entry, next_how, next_slice, next_steps, steps_by, with_next, world_of}
 use Rattle.commit_book.specs.Kept.{IsBook}
 use Rattle.commit_book.proofs.Keeping.{next-is_book}
+use Rattle.commit_book.proofs.Working.{IsWorking, starts}
 
 -- the book with as many quanta committed
 abbrev pub state_of : BookFields → ℕ → List Entry → BookFields
@@ -64,6 +66,32 @@ module _ (b : BookFields) (committed : ℕ) (history : List Entry) (w : World) (
 
   pub state-is_book : (y : BookFields) (v : World) → committed < b.quanta → y ≡ with_next 1 x → v ≡ quantum w → IsBook y v
   state-is_book y v more is next = subst (λ (z : BookFields). IsBook z v) (sym is) (next-is_book x w v 1 k more next)
+
+-- the book ran on for some quanta, and the work did not pause before
+pub record IsRunning (kept last : ℕ) (b : BookFields) (committed : ℕ) (history : List Entry) (w : World) (t u : ℕ) : Type 0 where
+  pub working : IsWorking kept last b (state_of b committed history) t u
+  pub book : IsBook (state_of b committed history) w
+
+pub can-run : (kept last : ℕ) (b v : BookFields) (w : World) → v ≡ b → IsSetup v.setup → IsBook v w → last ≤ b.quanta
+    → Pauses kept last b ⊎ (b.stash ≡ replicate b.window None)
+    → CanRun kept last b w v.history
+can-run kept last b v w is setup book within none = record {
+  setup = subst (λ (x : BookFields). IsSetup x.setup) is setup;
+  within = within;
+  none = none;
+  book = subst (λ (x : BookFields). IsBook x w) is book;
+  history = ap (λ (x : BookFields). x.history) is;
+}
+
+pub runs-first : (kept last : ℕ) (b : BookFields) (w : World) (history : List Entry) (n t : ℕ) → CanRun kept last b w history → n ≡ length history
+    → IsRunning kept last b n history w t t
+runs-first kept last b w history n t k long =
+    let all : n ≡ b.committed = long ∙ ap length k.history ∙ k.book.each in
+    let is : state_of b n history ≡ b = (λ i. state_of b (all i) (k.history i)) ∙ state-begins b w k.book in
+    record {
+      working = starts kept last b (state_of b n history) t t is refl;
+      book = subst (λ (x : BookFields). IsBook x w) (sym is) k.book;
+    }
 
 pub sound-world : (b : BookFields) (w : World) → IsSetup b.setup → IsBook b w → IsSound w
 sound-world b w h k =

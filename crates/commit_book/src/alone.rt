@@ -5,6 +5,7 @@ ghost use Rattle.commit_book.specs.Alone.{Pauses, WorksOn, last_of, number_saved
 
 use crate::book::Book;
 use crate::commit::is_setup;
+use crate::history::History;
 use crate::shown::Shown;
 use mutation_streams::Tape;
 use serial_slicer::InPlace;
@@ -12,6 +13,7 @@ use std::alloc::Global;
 use std::sync::ledger::Ledger;
 use step_count::Steps;
 use tierra_model::{How, OutOfMemory};
+use world_core::World;
 
 impl Book {
     /// Commits quanta as caller 1, each as `advance` does, until one saves a genotype, all are committed, or `most` are
@@ -49,15 +51,9 @@ impl Book {
         ensures { IfOk result (λ b. WorksOn kept last self b steps.old steps.new) }
     {
         is_setup(&self.setup);
-        let mut committed = self.committed;
         let mut history = self.history;
-        let mut run = InPlace::of(self.world)?;
-        'quanta: while committed < last && run.kept() <= kept {
-            history.push(run.first(), 1, How::Missing)?;
-            run.next_counted(alloc, tape, steps)?;
-            committed += 1;
-        }
-        let world = run.finish(alloc)?;
+        let world = run_world(alloc, self.world, &mut history, tape, kept, last, steps)?;
+        let committed = history.len() as u64;
         Ok(Book {
             setup: self.setup,
             quanta: self.quanta,
@@ -91,4 +87,55 @@ impl Book {
         }
         false
     }
+}
+
+ghost use Rattle.std.specs.Prelude.{OnOk};
+ghost use Rattle.commit_book.specs.Alone.{CanRun, ran_on};
+ghost use Rattle.commit_book.specs.Book.{BookFields};
+ghost use Rattle.commit_book.specs.Kept.{IsBook};
+
+// Runs the next quanta of a book in its world, until the work pauses.
+fn run_world<T: Tape, L: Ledger>(
+    alloc: Global,
+    world: World,
+    history: &mut History,
+    tape: &mut T,
+    kept: u64,
+    last: u64,
+    steps: &mut Steps<L>,
+) -> Result<World, OutOfMemory>
+    requires { (b : BookFields) × CanRun kept last b world.world history.old }
+    ensures works { (b : BookFields) → CanRun kept last b world.world history.old
+        → OnOk result (WorksOn kept last b (ran_on b history.new) steps.old steps.new) }
+    ensures book { (b : BookFields) → CanRun kept last b world.world history.old
+        → IfOk result (λ w. IsBook (ran_on b history.new) w.world) }
+{
+    let mut run = InPlace::of(world)?;
+    run_quanta(alloc, &mut run, history, tape, kept, last, steps)?;
+    run.finish(alloc)
+}
+
+// Borrows the world as it runs, so that one place ends it.
+fn run_quanta<T: Tape, L: Ledger>(
+    alloc: Global,
+    run: &mut InPlace,
+    history: &mut History,
+    tape: &mut T,
+    kept: u64,
+    last: u64,
+    steps: &mut Steps<L>,
+) -> Result<(), OutOfMemory>
+    requires { (b : BookFields) × CanRun kept last b run.old history.old }
+    ensures works { (b : BookFields) → CanRun kept last b run.old history.old
+        → OnOk result (WorksOn kept last b (ran_on b history.new) steps.old steps.new) }
+    ensures book { (b : BookFields) → CanRun kept last b run.old history.old
+        → OnOk result (IsBook (ran_on b history.new) run.new) }
+{
+    let mut committed = history.len() as u64;
+    'quanta: while committed < last && run.kept() <= kept {
+        history.push(run.first(), 1, How::Missing)?;
+        run.next_counted(alloc, tape, steps)?;
+        committed += 1;
+    }
+    Ok(())
 }
