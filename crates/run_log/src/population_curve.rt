@@ -6,7 +6,7 @@ ghost use Rattle.tierra_model.specs.declared.limits.TheConstants.{COUNT_END, MOS
 ghost use Rattle.tierra_model.specs.Counting.{times_in};
 ghost use Rattle.tierra_model.specs.Living.{ids_of};
 ghost use Rattle.tierra_model.specs.Quantum.{quantum as world_after};
-ghost use Rattle.tierra_model.specs.Serial.{serial};
+ghost use Rattle.tierra_model.specs.Serial.{serial, start};
 ghost use Rattle.tierra_model.specs.Setups.{IsSetup};
 ghost use Rattle.tierra_model.specs.Sound.{IsSound};
 ghost use Rattle.run_log.specs.declared.record.Record.TheVariants as record_of;
@@ -40,12 +40,28 @@ fn log_of_run(alloc: Global, setup: &Setup, quanta: u64) -> Result<Log, OutOfMem
     ensures counts { IfOk result (λ log. (q : ℕ) → q ≤ quanta
         → point_of log.inoculated (up_to q log.records) ≡ counts_of (serial setup.now q)) }
 {
+    let mut run = InPlace::of(World::start(alloc, setup)?)?;
+    log_of_world(alloc, setup, &mut run, quanta)
+}
+
+// The births and deaths of the next `quanta` quanta of a world that begins.
+fn log_of_world(
+    alloc: Global,
+    setup: &Setup,
+    run: &mut InPlace,
+    quanta: u64,
+) -> Result<Log, OutOfMemory>
+    requires few { quanta ≤ MOST_QUANTA }
+    requires begins { run.old ≡ start setup.now }
+    ensures records { IfOk result (λ log. log.records ≡ run_records setup.now quanta) }
+    ensures counts { IfOk result (λ log. (q : ℕ) → q ≤ quanta
+        → point_of log.inoculated (up_to q log.records) ≡ counts_of (serial setup.now q)) }
+{
     let inoculated = count_of(setup);
     let mut log = Log::new(alloc, inoculated);
     let mut living = numbers(alloc, inoculated)?;
-    let mut run = InPlace::of(World::start(alloc, setup)?)?;
     for before in 0..quanta {
-        living = note_quantum(alloc, &mut log, living, &mut run, inoculated, before + 1)?;
+        living = note_quantum(alloc, &mut log, living, run, inoculated, before + 1)?;
     }
     Ok(log)
 }

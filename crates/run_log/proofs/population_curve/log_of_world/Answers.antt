@@ -10,7 +10,7 @@ use Rattle.run_log.specs.declared.record.Record.{Record}
 use Rattle.run_log.specs.Curve.{records_in, run_records}
 use Rattle.run_log.specs.Records.{point_of, up_to}
 use Rattle.run_log.proofs.Runs.{IsAt, is-at, points-are, run-more, run-none, serial-none, start-count, start-ids, turn-living, turn-order}
-use Rattle.run_log.proofs.population_curve.log_of_run.Goals as goal
+use Rattle.run_log.proofs.population_curve.log_of_world.Goals as goal
 
 pub new-log-requires : goal.new-log-requires
 new-log-requires c =
@@ -36,7 +36,7 @@ loop-before-init c =
     let h : IsSetup setup = c.count_of-inoculated.ensures.setup in
     let inoculated : c.count_of-inoculated.result ≡ length (start setup).living =
     c.count_of-inoculated.ensures.count ∙ start-count setup in
-    let began = c.in_ok-run.ensures ∙ c.in_ok-start.ensures in
+    let began = c.requires.begins in
     record {
       run = began ∙ sym (serial-none setup);
       inoculated = c.new-log.ensures.inoculated ∙ inoculated;
@@ -47,25 +47,25 @@ loop-before-init c =
 pub note_quantum-requires-clause-sound : goal.note_quantum-requires-clause-sound
 note_quantum-requires-clause-sound c =
     let at = is-at c.args.setup.now c.loop-before.before c.loop-before.run c.count_of-inoculated.ensures.setup
-    (omega (arith, c.loop-before-test.true, c.requires)) c.loop-before.invariant.run in
+    (omega (arith, c.loop-before-test.true, c.requires.few)) c.loop-before.invariant.run in
     at.sound
 
 pub note_quantum-requires-clause-quantum : goal.note_quantum-requires-clause-quantum
 note_quantum-requires-clause-quantum c =
     let at = is-at c.args.setup.now c.loop-before.before c.loop-before.run c.count_of-inoculated.ensures.setup
-    (omega (arith, c.loop-before-test.true, c.requires)) c.loop-before.invariant.run in
+    (omega (arith, c.loop-before-test.true, c.requires.few)) c.loop-before.invariant.run in
     omega (arith, at.quanta)
 
 pub note_quantum-requires-clause-numbers : goal.note_quantum-requires-clause-numbers
 note_quantum-requires-clause-numbers c =
     let at = is-at c.args.setup.now c.loop-before.before c.loop-before.run c.count_of-inoculated.ensures.setup
-    (omega (arith, c.loop-before-test.true, c.requires)) c.loop-before.invariant.run in
+    (omega (arith, c.loop-before-test.true, c.requires.few)) c.loop-before.invariant.run in
     omega (arith, at.tracks.next_birth, c.count_of-inoculated.ensures.count, start-count c.args.setup.now)
 
 pub note_quantum-requires-clause-noted : goal.note_quantum-requires-clause-noted
 note_quantum-requires-clause-noted c =
     let at = is-at c.args.setup.now c.loop-before.before c.loop-before.run c.count_of-inoculated.ensures.setup
-    (omega (arith, c.loop-before-test.true, c.requires)) c.loop-before.invariant.run in
+    (omega (arith, c.loop-before-test.true, c.requires.few)) c.loop-before.invariant.run in
     let run = c.loop-before.invariant in
     turn-living (length (start c.args.setup.now).living) c.loop-before.before c.loop-before.log.inoculated (run_records c.args.setup.now c.loop-before.before)
     c.loop-before.log.records
@@ -74,7 +74,7 @@ note_quantum-requires-clause-noted c =
 pub note_quantum-requires-clause-order : goal.note_quantum-requires-clause-order
 note_quantum-requires-clause-order c =
     turn-order c.args.setup.now c.loop-before.before c.loop-before.log.records c.count_of-inoculated.ensures.setup
-    (omega (arith, c.loop-before-test.true, c.requires))
+    (omega (arith, c.loop-before-test.true, c.requires.few))
     c.loop-before.invariant.records
 
 pub loop-before-preserved : goal.loop-before-preserved
@@ -107,4 +107,4 @@ returns-clause-counts c =
     let all : c.loop-before.before ≡ c.args.quanta = omega (arith, c.loop-before-test.false) in
     λ q below. ap (λ (i : ℕ). point_of i (up_to q c.loop-before.log.records)) c.loop-before.invariant.inoculated
     ∙ ap (λ (rs : List Record). point_of (length (start setup).living) (up_to q rs)) (c.loop-before.invariant.records ∙ ap (run_records setup) all)
-    ∙ points-are setup c.args.quanta q h c.requires below
+    ∙ points-are setup c.args.quanta q h c.requires.few below
