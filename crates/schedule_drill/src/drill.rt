@@ -99,8 +99,8 @@ impl Drill {
         requires quanta { (1 ≤ quanta) × (quanta ≤ MOST_QUANTA) }
         ensures { IfOk result (λ d. d ≡ first_drill setup quanta) }
     {
-        let book = Book::begin(alloc, setup, quanta, WINDOW)?;
         let hands = Vec::from_array(alloc, [None, None, None, None])?;
+        let book = Book::begin(alloc, setup, quanta, WINDOW)?;
         let answered = Answered {
             kept: 0,
             twice: 0,

@@ -2,10 +2,12 @@
 
 ghost use Rattle.std.specs.Prelude.{◌≡◌, ◌≤◌, ◌++◌, IfOk, OnOk, string_bytes};
 ghost use Rattle.std.specs.Fmt.{decimal};
+ghost use Rattle.commit_book.specs.Book.{world_of};
+ghost use Rattle.report_text.specs.Dump.{state_line};
 ghost use Rattle.schedule_drill.specs.Text.{drill_text, tally_text};
 ghost use Rattle.tierra_model.specs.declared.limits.TheConstants.{MOST_QUANTA};
 
-use crate::drill::play;
+use crate::drill::{Played, play};
 use crate::moves::moves_from;
 use crate::tally::Tally;
 use report_text::state_line;
@@ -25,6 +27,13 @@ pub fn drill_text(
 {
     let moves = moves_from(alloc, number, quanta)?;
     let played = play(alloc, setup, quanta, &moves)?;
+    played_text(alloc, quanta, &played)
+}
+
+fn played_text(alloc: Global, quanta: u64, played: &Played) -> Result<Text, OutOfMemory>
+    ensures { IfOk result (λ text. text
+        ≡ tally_text quanta played.now.tally ++ state_line (world_of played.now.book)) }
+{
     let mut items = tally_text(alloc, quanta, &played.tally)?.into_bytes();
     items.extend_from_slice(&state_line(alloc, played.book.world())?.items)?;
     Ok(Text { items })
