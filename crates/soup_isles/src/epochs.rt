@@ -1,9 +1,10 @@
 //! Runs of isles.
 
-ghost use Rattle.std.specs.Prelude.{◌≡◌, ◌+◌, ◌<◌, ◌≤◌, IfOk, length, map};
+ghost use Rattle.std.specs.Prelude.{◌≡◌, ◌+◌, ◌++◌, ◌<◌, ◌≤◌, IfOk, OnOk, length, map};
 ghost use Rattle.std.specs.Thread.{IsSync};
 ghost use Rattle.tierra_model.specs.declared.limits.TheConstants.{MOST_EPOCHS, MOST_ISLES, MOST_QUANTA, MOST_WORKERS};
 ghost use Rattle.tierra_model.specs.Setups.{IsSetup};
+ghost use Rattle.soup_isles.specs.Isles.{next_setups};
 ghost use Rattle.soup_isles.specs.Runs.{first_setup, first_setups, isle_worlds, worlds_of};
 
 use crate::lists::{SetupList, WorldList};
@@ -35,16 +36,42 @@ pub fn run_isles<R: Threads + Sync>(
     let mut setups = first_setups(alloc, setup, isles)?;
     let mut worlds = run_epoch(rt, alloc, &setups, quanta, workers)?;
     for migrations in 0..epochs - 1 {
-        setups = next_setups(
+        next_epoch(
+            rt,
             alloc,
-            &setups,
-            &worlds,
+            &mut setups,
+            &mut worlds,
             &setup.settings.seed,
             migrations + 2,
+            quanta,
+            workers,
         )?;
-        worlds = run_epoch(rt, alloc, &setups, quanta, workers)?;
     }
     Ok(worlds)
+}
+
+// Goes on from the setups and worlds of an epoch to those of the next one.
+fn next_epoch<R: Threads + Sync>(
+    rt: &R,
+    alloc: Global,
+    setups: &mut SetupList,
+    worlds: &mut WorldList,
+    seed: &[u8; 32],
+    epoch: u64,
+    quanta: u64,
+    workers: u32,
+) -> Result<(), OutOfMemory>
+    requires few { (1 ≤ length setups.old) × (length setups.old ≤ MOST_ISLES) }
+    requires same { map (λ w. w.settings) worlds.old ≡ map (λ s. s.settings) setups.old }
+    requires quanta { (1 ≤ quanta) × (quanta ≤ MOST_QUANTA) }
+    requires workers { (1 ≤ workers) × (workers ≤ MOST_WORKERS) }
+    ensures setups { OnOk result (setups.new ≡ next_setups setups.old worlds.old seed.now epoch) }
+    ensures worlds { OnOk result (worlds.new ≡ worlds_of setups.new quanta) }
+    ensures settings { OnOk result (map (λ w. w.settings) worlds.new ≡ map (λ s. s.settings) setups.new) }
+{
+    *setups = next_setups(alloc, setups, worlds, seed, epoch)?;
+    *worlds = run_epoch(rt, alloc, setups, quanta, workers)?;
+    Ok(())
 }
 
 // ---- epoch 1
@@ -150,8 +177,15 @@ fn run_parts<R: Threads + Sync>(
             ensures { IfOk result (λ v. map (λ w. w.world) v.items ≡ worlds_of ours.entry.now quanta) }
         { run_parts(rt, alloc, ours, quanta, workers - others) },
     );
-    let mut all = first?;
-    all.append(&mut second?)?;
+    joined(first?, second?)
+}
+
+fn joined(first: Vec<World>, second: Vec<World>) -> Result<Vec<World>, OutOfMemory>
+    ensures { IfOk result (λ all. all.items ≡ first.items ++ second.items) }
+{
+    let mut all = first;
+    let mut others = second;
+    all.append(&mut others)?;
     Ok(all)
 }
 
@@ -171,8 +205,23 @@ fn run_each(alloc: Global, setups: &[Setup], quanta: u64) -> Result<Vec<World>, 
     ensures { IfOk result (λ v. map (λ w. w.world) v.items ≡ worlds_of setups.now quanta) }
 {
     let mut all = Vec::new(alloc);
+    add_each(alloc, &mut all, setups, quanta)?;
+    Ok(all)
+}
+
+// Runs the isles one after another, and appends their worlds.
+fn add_each(
+    alloc: Global,
+    all: &mut Vec<World>,
+    setups: &[Setup],
+    quanta: u64,
+) -> Result<(), OutOfMemory>
+    requires { quanta ≤ MOST_QUANTA }
+    ensures { OnOk result (map (λ w. w.world) all.new.items
+        ≡ map (λ w. w.world) all.old.items ++ worlds_of setups.now quanta) }
+{
     for setup in setups {
         all.push(run_serial(alloc, setup, quanta)?)?;
     }
-    Ok(all)
+    Ok(())
 }

@@ -24,12 +24,12 @@ loop-migrations-preserved g c =
     = before.1 ∙ ap (λ (l : List SetupFields). worlds_of l c.args.quanta) before.0 in
     let seed : c.setup.inside.settings.seed ≡ setup.settings.seed = ap (λ (s : SetupFields). s.settings.seed) c.setup.view_is in
     let next : suc k ≡ k + 1 = omega arith in (
-      c.in_ok-setups-2.ensures
+      c.in_ok-next_epoch.ensures.setups
           ∙ (λ i. next_setups (before.0 i) (worlds i) (seed i) (k + 2))
           ∙ ap (λ (n : ℕ). setups_after setup c.args.isles c.args.quanta n) next,
-      c.in_ok-worlds-2.ensures.worlds,
-      c.in_ok-worlds-2.ensures.settings,
-      ap length c.in_ok-setups-2.ensures
+      c.in_ok-next_epoch.ensures.worlds,
+      c.in_ok-next_epoch.ensures.settings,
+      ap length c.in_ok-next_epoch.ensures.setups
           ∙ next-many c.loop-migrations.setups c.loop-migrations.worlds c.setup.inside.settings.seed (k + 2)
           ∙ before.3,
     )
