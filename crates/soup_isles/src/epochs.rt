@@ -209,7 +209,7 @@ fn run_each(alloc: Global, setups: &[Setup], quanta: u64) -> Result<Vec<World>, 
     Ok(all)
 }
 
-// Runs the isles one after another, and appends their worlds.
+// Appends the worlds to a list that it borrows, so that one place ends them.
 fn add_each(
     alloc: Global,
     all: &mut Vec<World>,
