@@ -141,8 +141,7 @@ impl Population {
         requires here { 0 < times_in (ids_of self.now.living) (slice_index self.now.reaper place) }
         ensures { result.now ≡ one_of self.now.living (slice_index self.now.reaper place) }
     {
-        let (id, _) = self.reaper.at(place);
-        self.one(id)
+        self.one(self.reaper_at(place))
     }
 
     /// The first place in the reaper queue that is not the creature's.

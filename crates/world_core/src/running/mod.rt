@@ -120,9 +120,9 @@ impl Running {
     {
         Ok(Running {
             settings: *settings,
+            blocks: Blocks::new(alloc, settings.soup_size)?,
             soup: Soup::new(alloc, settings.soup_size)?,
             population: Population::new(alloc),
-            blocks: Blocks::new(alloc, settings.soup_size)?,
             genes: Genes::new(alloc),
             census: Census::new(alloc),
             births: 0,
