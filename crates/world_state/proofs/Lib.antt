@@ -1,3 +1,4 @@
+pub mod ListsRead
 pub mod BirthNumbers
 pub mod SlicerLength
 pub mod FieldsRead

@@ -67,10 +67,8 @@ fn push_stack(out: &mut Vec<u8>, creature: &Creature) -> Result<(), OutOfMemory>
 fn push_creature_counts(out: &mut Vec<u8>, creature: &Creature) -> Result<(), OutOfMemory>
     ensures { OnOk result (out.new.items ≡ out.old.items ++ count_bytes creature.now) }
 {
-    push_eight(out, creature.errors)?;
-    push_eight(out, creature.genotype)?;
-    push_eight(out, creature.ran)?;
-    push_eight(out, creature.bred)
+    push_eights(out, creature.errors, creature.genotype)?;
+    push_eights(out, creature.ran, creature.bred)
 }
 
 fn push_words(out: &mut Vec<u8>, words: &[i32]) -> Result<(), OutOfMemory>
