@@ -8,12 +8,12 @@ use Rattle.world_core.specs.declared.building.Parts.{Parts}
 use Rattle.world_core.specs.Running.{number_with}
 
 -- the parts are those of the world
-pub record AreOf (w : World) (p : Parts) : Type 0 where
-  pub counts : (g : ℕ) → living_of p.census g ≡ number_with w.living g
-  pub size : p.blocks.size ≡ w.settings.soup_size
-  pub free : p.blocks.free ≡ runs_of w.settings.soup_size (λ p. not (is_owned w.living p))
-  pub genotypes : p.genotypes.genotypes ≡ w.genotypes
-  pub soup : p.soup.cells ≡ w.soup
-  pub living : p.population.living ≡ w.living
-  pub slicer : p.population.slicer ≡ w.slicer
-  pub reaper : p.population.reaper ≡ w.reaper
+pub record ArePartsOf (w : World) (parts : Parts) : Type 0 where
+  pub counts : (g : ℕ) → living_of parts.census g ≡ number_with w.living g
+  pub size : parts.blocks.size ≡ w.settings.soup_size
+  pub free : parts.blocks.free ≡ runs_of w.settings.soup_size (λ p. not (is_owned w.living p))
+  pub genotypes : parts.genotypes.genotypes ≡ w.genotypes
+  pub soup : parts.soup.cells ≡ w.soup
+  pub living : parts.population.living ≡ w.living
+  pub slicer : parts.population.slicer ≡ w.slicer
+  pub reaper : parts.population.reaper ≡ w.reaper

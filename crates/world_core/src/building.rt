@@ -11,7 +11,7 @@ ghost use Rattle.tierra_model.specs.Sound.{IsPlaced, IsSound, Ordered, owners, t
 ghost use Rattle.census.specs.Census.{living_of};
 ghost use Rattle.world_state.specs.Checks.{covers};
 ghost use Rattle.world_state.specs.Reading.{genotypes_of};
-ghost use Rattle.world_core.specs.Parts.{AreOf};
+ghost use Rattle.world_core.specs.Parts.{ArePartsOf};
 ghost use Rattle.world_core.specs.Population.{entries_of};
 ghost use Rattle.world_core.specs.Running.{number_with};
 
@@ -52,7 +52,7 @@ struct Parts {
 
 fn parts_from(alloc: Global, draft: &Draft) -> Result<Parts, OutOfMemory>
     requires { IsSound draft.now }
-    ensures { IfOk result (λ parts. AreOf draft.now parts) }
+    ensures { IfOk result (λ parts. ArePartsOf draft.now parts) }
 {
     let size = draft.settings.soup_size;
     let living = draft.living.as_slice();
@@ -72,7 +72,7 @@ fn parts_from(alloc: Global, draft: &Draft) -> Result<Parts, OutOfMemory>
 
 // A draft's parts together, with its counts and savings.
 fn joined(draft: Draft, parts: Parts) -> Running
-    requires { AreOf draft parts }
+    requires { ArePartsOf draft parts }
     ensures { result.world ≡ draft }
 {
     let counts = Counts {

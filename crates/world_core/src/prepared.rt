@@ -51,8 +51,8 @@ impl World {
         ensures events { IfOk result (λ p. p.events ≡ events.now) }
         ensures after { IfOk result (λ p. p.after ≡ after.now) }
     {
-        let codes = make_room(alloc, &mut self.running, &events.items)?;
         let items = events.items.to_vec(alloc)?;
+        let codes = make_room(alloc, &mut self.running, &events.items)?;
         Ok(Prepared {
             events: EventList { items },
             after: *after,

@@ -6,13 +6,13 @@ use Rattle.tierra_model.specs.Room.{is_owned}
 use Rattle.tierra_model.specs.World.{World}
 use Rattle.world_state.specs.contracts.draft.Draft.{the_view}
 use Rattle.world_state.proofs.Joined.{world-from}
-use Rattle.world_core.specs.Parts.{AreOf}
+use Rattle.world_core.specs.Parts.{ArePartsOf}
 use Rattle.world_core.specs.Running.{number_with}
 use Rattle.world_core.proofs.building.joined.Goals as goal
 
 pub of-requires-2 : goal.of-requires-2
 of-requires-2 c =
-    let are : AreOf (the_view c.draft.inside) c.args.parts = subst (λ (w : World). AreOf w c.args.parts) (sym c.draft.view_is) c.requires in
+    let are : ArePartsOf (the_view c.draft.inside) c.args.parts = subst (λ (w : World). ArePartsOf w c.args.parts) (sym c.draft.view_is) c.requires in
     let n = c.draft.inside.settings.soup_size in
     record {
       size = are.size;
@@ -22,7 +22,7 @@ of-requires-2 c =
 
 pub returns : goal.returns
 returns c =
-    let are : AreOf (the_view c.draft.inside) c.args.parts = subst (λ (w : World). AreOf w c.args.parts) (sym c.draft.view_is) c.requires in
+    let are : ArePartsOf (the_view c.draft.inside) c.args.parts = subst (λ (w : World). ArePartsOf w c.args.parts) (sym c.draft.view_is) c.requires in
     let is = c.of-2.ensures in
     world-from c.of-2.result.world (the_view c.draft.inside) (ap (λ (w : World). w.settings) is) (ap (λ (w : World). w.soup) is ∙ are.soup)
     (ap (λ (w : World). w.living) is ∙ are.living) (ap (λ (w : World). w.slicer) is ∙ are.slicer) (ap (λ (w : World). w.reaper) is ∙ are.reaper)

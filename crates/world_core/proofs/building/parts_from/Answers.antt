@@ -12,7 +12,7 @@ use Rattle.world_state.specs.declared.fields.StoredGenotype.{StoredGenotype}
 use Rattle.world_state.specs.contracts.draft.Draft.{the_view}
 use Rattle.world_state.specs.Reading.{genotypes_of}
 use Rattle.world_state.proofs.Joined.{codes-written}
-use Rattle.world_core.specs.Parts.{AreOf}
+use Rattle.world_core.specs.Parts.{ArePartsOf}
 use Rattle.world_core.specs.Running.{number_with}
 use Rattle.world_core.proofs.building.parts_from.Goals as goal
 
@@ -77,7 +77,7 @@ pub returns : goal.returns
 returns c =
     let n = c.draft.inside.settings.soup_size in
     let living = c.as_slice-living.ensures.value in
-    subst (λ (w : World). AreOf w (record {
+    subst (λ (w : World). ArePartsOf w (record {
       census = c.in_ok-census.census;
       blocks = c.in_ok-blocks.blocks;
       genotypes = c.in_ok-genotypes.genotypes;
