@@ -1,4 +1,4 @@
-use Rattle.std.proofs.Common.{◌≡◌, ◌∙◌, ◌<◌, ◌++◌, ◌∷◌, [], ap, append_assoc, arith, length, sym, take}
+use Rattle.std.proofs.Common.{◌∙◌, ◌<◌, ◌++◌, ◌∷◌, [], ap, append_assoc, arith, length, sym, take}
 use Rattle.std.proofs.lemmas.List.{take_more}
 use Rattle.world_core.proofs.state.push_cells.Goals as goal
 
