@@ -31,21 +31,19 @@ pub(crate) fn run_alone<H: Hand>(alloc: Global, book: Book, hand: &mut H) -> Ran
     ensures later { H.goes_to hand.old hand.new }
 {
     let mut book = book;
-    'savings: while book.committed() < book.quanta() {
+    'savings: loop {
         match hand_all(alloc, &book, hand) {
             Ok(Next::Go) => {}
             Ok(Next::Halt) => return halted(book),
             Err(_) => return Ran::OutOfMemory,
         }
+        if book.committed() == book.quanta() {
+            return Ran::Ended(book);
+        }
         let Ok(worked) = work_on(alloc, book, hand) else {
             return Ran::OutOfMemory;
         };
         book = worked;
-    }
-    match hand_all(alloc, &book, hand) {
-        Ok(Next::Go) => Ran::Ended(book),
-        Ok(Next::Halt) => halted(book),
-        Err(_) => Ran::OutOfMemory,
     }
 }
 
@@ -70,9 +68,7 @@ pub(crate) fn work_some<T: Tape>(
     ensures works { IfOk result (λ b. (u : ℕ) × WorksOn (number_saved book) (last_of most book) book b 0 u) }
     ensures few { IfOk result (λ b. b.committed ≤ b.quanta) }
 {
-    let worked = counted_work::<Brand, T>(alloc, book, tape, most, Blank::new(1))?;
-    let _committed = worked.committed(); // for its contract alone
-    Ok(worked)
+    counted_work::<Brand, T>(alloc, book, tape, most, Blank::new(1))
 }
 
 // Commits these quanta, with an account of the instructions that only contracts see.
@@ -86,10 +82,12 @@ fn counted_work<L: Ledger, T: Tape>(
     requires name { blank.name ≡ L.name }
     requires parts { blank.parts ≡ L.parts }
     requires some { 0 < L.parts }
-    ensures { IfOk result (λ b. (u : ℕ) × WorksOn (number_saved book) (last_of most book) book b 0 u) }
+    ensures works { IfOk result (λ b. (u : ℕ) × WorksOn (number_saved book) (last_of most book) book b 0 u) }
+    ensures few { IfOk result (λ b. b.committed ≤ b.quanta) }
 {
     let mut steps = Steps::<L>::start(blank);
     let worked = book.work_on(alloc, tape, most, &mut steps)?;
+    let _committed = worked.committed(); // for its contract alone
     Ok(worked)
 }
 

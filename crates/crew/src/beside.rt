@@ -112,7 +112,11 @@ fn run_quanta<R: Wait, C: Course>(
     if !exchange.begin(rt) {
         return Ok(book);
     }
-    let ran = run_while_taken(rt, alloc, exchange, book, from, is_drawn);
+    let mut page = Page {
+        block: None,
+        is_drawn,
+    };
+    let ran = run_while_taken(rt, alloc, exchange, book, from, &mut page);
     exchange.end(rt);
     ran
 }
@@ -124,23 +128,19 @@ fn run_while_taken<R: Wait, C: Course>(
     exchange: &Exchange<Parcel<C>>,
     book: Book,
     from: u64,
-    is_drawn: bool,
+    page: &mut Page,
 ) -> Result<Book, OutOfMemory>
     requires { IsOfRun C.setup C.quanta book }
     ensures { IfOk result (IsOfRun C.setup C.quanta) }
 {
     let mut book = book;
     let mut from = from;
-    let mut page = Page {
-        block: None,
-        is_drawn,
-    };
     'stretches: while book.committed() < book.quanta() {
-        if !turn(rt, exchange, &mut page, book.committed() + 1) {
+        if !turn(rt, exchange, page, book.committed() + 1) {
             return Ok(book);
         }
         let kept = book.world().kept();
-        book = run_stretch::<C>(alloc, book, &mut page)?;
+        book = run_stretch::<C>(alloc, book, page)?;
         if book.world().kept() > kept && !send(rt, alloc, exchange, &book, &mut from)? {
             return Ok(book);
         }

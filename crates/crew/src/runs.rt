@@ -7,7 +7,7 @@ ghost use Rattle.crew.specs.Hand.{IsUnhalted, run_bank};
 ghost use Rattle.crew.specs.Ran.{HaltsAsIn, IfEnded, IfHalted};
 
 use crate::alone::{halted, run_alone};
-use crate::beside::{Left, run_beside};
+use crate::beside::run_beside;
 use crate::gate::Gate;
 use crate::hand::{Hand, Next};
 use crate::lead::Handover;
@@ -108,12 +108,13 @@ fn run_rest<R: Threads + Wait + Sync, H: Hand>(
     let Ok(spare) = another(alloc, &book) else {
         return run_alone(alloc, book, hand);
     };
-    let Left { book, next } = run_beside::<Brand, R, H>(rt, alloc, book, workers, hand);
-    match (book, next) {
-        (Ok(book), Next::Go) => run_alone(alloc, book, hand),
-        (Ok(book), Next::Halt) => halted(book),
-        (Err(_), Next::Go) => Ran::OutOfMemory,
-        (Err(_), Next::Halt) => halted(spare),
+    let left = run_beside::<Brand, R, H>(rt, alloc, book, workers, hand);
+    if left.next == Next::Halt {
+        return halted(left.book.unwrap_or(spare));
+    }
+    match left.book {
+        Ok(book) => run_alone(alloc, book, hand),
+        Err(_) => Ran::OutOfMemory,
     }
 }
 

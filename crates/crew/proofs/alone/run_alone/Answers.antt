@@ -9,7 +9,8 @@ use Rattle.crew.proofs.alone.run_alone.Goals as goal
 
 pub savings-smaller : goal.savings-smaller
 savings-smaller g c =
-    let left : c.savings.book.committed < c.savings.book.quanta = omega (arith, c.savings-test.true, c.committed.ensures.value, c.quanta.ensures.value) in
+    let left : c.savings.book.committed < c.savings.book.quanta
+    = omega (arith, c.if-committed-quanta.false, c.committed.ensures.value, c.quanta.ensures.value, c.savings.invariant.few) in
     let w = worked c.savings.book.quanta c.savings.book c.in-Ok.worked 0 c.in-Ok.ensures.works.0 (omega (arith, left)) c.in-Ok.ensures.works.1 in
     omega (arith, w.more left, w.quanta, left)
 
@@ -17,7 +18,7 @@ pub savings-preserved : goal.savings-preserved
 savings-preserved g c =
     let b = c.savings.book in
     let run = c.savings.invariant in
-    let some : 0 < b.quanta = omega (arith, c.savings-test.true, c.committed.ensures.value, c.quanta.ensures.value) in
+    let some : 0 < b.quanta = omega (arith, c.if-committed-quanta.false, c.committed.ensures.value, c.quanta.ensures.value, run.few) in
     let w = worked b.quanta b c.in-Ok.worked 0 c.in-Ok.ensures.works.0 some c.in-Ok.ensures.works.1 in
     let put = c.in-Ok-Go.ensures in
     let hand = c.hand_all.new.hand in
