@@ -23,6 +23,6 @@ mod worker;
 pub use gate::{FreeGate, Gate};
 pub use hand::{Hand, Next};
 pub use runs::{Ran, run_crew};
-pub use seats::{seats_for, work_all};
+pub use seats::{add_seats, work_all};
 pub use trial::{number_of_drawers, takes_jobs};
 pub use worker::work;

@@ -11,7 +11,7 @@ use crate::beside::run_beside;
 use crate::gate::Gate;
 use crate::hand::{Hand, Next};
 use crate::lead::Handover;
-use crate::seats::{seats_for, work_together};
+use crate::seats::{add_seats, work_together};
 use crate::trial::Stay;
 use crate::worker::Crew;
 use commit_book::Book;
@@ -66,7 +66,9 @@ pub fn run_crew<R: Threads + Wait + Sync, G: Gate + Sync, H: Hand>(
     let Ok((lock, mut first)) = TurnLock::of(alloc, book) else {
         return Ran::OutOfMemory;
     };
-    let mut others = seats_for(alloc, &lock, &mut first, workers);
+    let mut others = Vec::new(alloc);
+    // Where there is no memory for a worker's seat, fewer work.
+    let _all = add_seats(&lock, &mut first, workers, &mut others);
     let crew = Crew {
         rt,
         alloc,

@@ -27,25 +27,27 @@ fn seat_for(lock: &TurnLock<Book>, first: &mut Seat, caller: u32) -> Result<Seat
     lock.split(first, caller)
 }
 
-/// Seats for the callers from 2 to `last`, split off from the seat of worker 1, as far as there is memory for them.
-pub fn seats_for(alloc: Global, lock: &TurnLock<Book>, first: &mut Seat, last: u32) -> Vec<Seat>
+/// Adds the seats of the callers from 2 to `last`, split off from the seat of worker 1. Where memory ends, the first of
+/// them are there.
+pub fn add_seats(
+    lock: &TurnLock<Book>,
+    first: &mut Seat,
+    last: u32,
+    seats: &mut Vec<Seat>,
+) -> Result<(), OutOfMemory>
     requires first { IsFirst lock.now 2 first.old }
     requires callers { (1 ≤ last) × (last ≤ MOST_WORKERS) }
-    ensures others { AreFrom lock.now 2 result.items }
-    ensures first { IsFirst lock.now (length result.items + 2) first.new }
-    ensures few { length result.items + 1 ≤ last }
+    requires empty { length seats.old.items ≡ 0 }
+    ensures others { AreFrom lock.now 2 seats.new.items }
+    ensures first { IsFirst lock.now (length seats.new.items + 2) first.new }
+    ensures few { length seats.new.items + 1 ≤ last }
+    ensures all { OnOk result (length seats.new.items + 1 ≡ last) }
 {
-    let mut seats = Vec::new(alloc);
-    if seats.reserve(last as usize - 1).is_err() {
-        return seats;
-    }
+    seats.reserve(last as usize - 1)?;
     for caller in 2..last + 1 {
-        let Ok(seat) = seat_for(lock, first, caller) else {
-            return seats;
-        };
-        seats.push_reserved(seat);
+        seats.push_reserved(seat_for(lock, first, caller)?);
     }
-    seats
+    Ok(())
 }
 
 // Takes a worker's seat, and works.

@@ -18,7 +18,7 @@ use crate::sights::Sights;
 use crate::text::sights_text;
 use crate::waiting::wait_until;
 use commit_book::{Advanced, Book};
-use crew::{Gate, seats_for, work_all};
+use crew::{Gate, add_seats, work_all};
 use report_text::report;
 use std::alloc::{AllocError, Global};
 use std::marker::Brand;
@@ -278,10 +278,8 @@ pub fn watch<R: Threads + Wait + Sync, G: Gate + Sync>(
     let Ok((lock, mut first)) = TurnLock::of(alloc, book) else {
         return Err(AllocError);
     };
-    let others = seats_for(alloc, &lock, &mut first, workers + 1);
-    if others.len() < workers as usize {
-        return Err(AllocError);
-    }
+    let mut others = Vec::new(alloc);
+    add_seats(&lock, &mut first, workers + 1, &mut others)?;
     let watched = with_observer(rt, alloc, &lock, first, others, quanta, looks, gate)?;
     let (sights, book) = see_end(rt, alloc, lock, workers + 1, looks, watched)?;
     told(alloc, &sights, &book)

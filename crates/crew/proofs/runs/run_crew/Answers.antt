@@ -7,13 +7,13 @@ use Rattle.crew.proofs.runs.run_crew.Goals as goal
 
 pub work_together-worked-requires-clause-first : goal.work_together-worked-requires-clause-first
 work_together-worked-requires-clause-first g c κs within =
-    let first = c.seats_for-others.ensures.first in
-    (c.seats_for-others.new.first, refl, record { lock = first.lock; turns = first.turns })
+    let first = c.add_seats-all.ensures.first in
+    (c.add_seats-all.new.first, refl, record { lock = first.lock; turns = first.turns })
 
 pub close-book-requires-clause-all : goal.close-book-requires-clause-all
 close-book-requires-clause-all g c =
-    let split = c.seats_for-others.ensures in
-    speaks_all c.in-Ok.lock c.seats_for-others.result.items c.seats_for-others.new.first c.work_together-worked.result.seat split.first split.others
+    let split = c.add_seats-all.ensures in
+    speaks_all c.in-Ok.lock c.add_seats-all.new.seats.items c.add_seats-all.new.first c.work_together-worked.result.seat split.first split.others
     c.work_together-worked.ensures.seat
 
 pub work_together-worked-requires-clause-ready : goal.work_together-worked-requires-clause-ready

@@ -1,4 +1,4 @@
-use Rattle.std.proofs.Common.{◌≡◌, ◌++◌, ◌∙◌, ◌+◌, ℕ, ap, arith, length, subst}
+use Rattle.std.proofs.Common.{◌≡◌, ◌++◌, ◌∙◌, ◌+◌, ℕ, ap, length, subst}
 use Rattle.std.proofs.lemmas.Result.{IfOk-weaker}
 use Rattle.report_text.specs.Report.{report}
 use Rattle.tierra_model.specs.Serial.{serial}
@@ -13,8 +13,7 @@ use Rattle.soup_watch.proofs.watching.watch.Goals as goal
 
 pub see_end-requires-clause-watched : goal.see_end-requires-clause-watched
 see_end-requires-clause-watched g c =
-    let number : length c.seats_for-others.result.items + 1 ≡ c.args.workers + 1 =
-    omega (arith, c.seats_for-others.ensures.few, c.len.ensures, c.if-len-workers.false) in
+    let number : length c.add_seats.new.seats.items + 1 ≡ c.args.workers + 1 = c.in_ok-add_seats.ensures.all in
     subst (λ (k : ℕ). IsWatched c.in-Ok.lock.opening.setup.0 c.in-Ok.lock k c.args.looks c.in_ok-watched.watched) number c.in_ok-watched.ensures
 
 pub returns : goal.returns

@@ -1,7 +1,7 @@
 use Rattle.std.proofs.Common.{◌≡◌, ◌+◌, ◌≤◌}
 use Rattle.std.specs.Prelude.{length, vec_capacity}
 use Rattle.crew.specs.Works.{AreFrom, IsFirst}
-use Rattle.crew.proofs.seats.seats_for.Given as goal
+use Rattle.crew.proofs.seats.add_seats.Given as goal
 
 abbrev pub invariant-loop-caller : goal.invariant-loop-caller
 invariant-loop-caller l = record {
