@@ -16,10 +16,7 @@ top = pathlib.Path(__file__).resolve().parent.parent
 
 def built():
     """Gives the program: the one that the variable TIERRA names, or that of this repository, built where it must be."""
-    if "TIERRA" in os.environ:
-        return os.path.abspath(os.environ["TIERRA"])
-    subprocess.run([top / "tierra", "asm"], input=b"zero", stdout=subprocess.DEVNULL, check=True)
-    return str(top / "crates/tierra/out/tierra")
+    return subprocess.run([top / "benches/built"], stdout=subprocess.PIPE, check=True, text=True).stdout.rstrip("\n")
 
 
 def new_room():
