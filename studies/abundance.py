@@ -8,6 +8,8 @@ the most individuals at any checkpoint, and adds up the others in the column `ot
 """
 import sys
 
+import pandas
+
 from . import frames
 
 
@@ -45,6 +47,28 @@ def abundance(worlds, by="genotype", most=None):
     if most is not None and most < wide.shape[1]:
         shown["others"] = others
     return shown
+
+
+def size_class(size: int) -> str:
+    """The ten sizes that a size is one of, in words."""
+    return f"{size // 10 * 10} to {size // 10 * 10 + 9}"
+
+
+def with_size_classes(worlds, most: int, share: float = 0.25) -> pandas.DataFrame:
+    """The table with the others by classes of size: as many of these as it takes until the rest is at most such a share of all creatures."""
+    living = frames.living(worlds)
+    shown = abundance(worlds, most=most)
+    genotypes = [column for column in shown.columns if column != "others"]
+    left = living[~living.name.isin(genotypes)]
+    wide = left.assign(kind=left["size"].map(size_class)).pivot_table(index="quantum", columns="kind", values="living", aggfunc="sum")
+    wide = wide.reindex(shown.index).fillna(0).astype("int64")
+    largest = wide.sum().sort_values(ascending=False, kind="stable")
+    rest = largest[::-1].cumsum()[::-1].shift(-1, fill_value=0)
+    kept = largest.index[: int((rest > share * living.living.sum()).sum()) + 1]
+    classes = sorted(kept, key=lambda kind: int(kind.split()[0]))
+    made = shown[genotypes].join(wide[classes].add_prefix("others of "))
+    others = wide.drop(columns=classes).sum(axis=1)
+    return made.assign(others=others) if others.any() else made
 
 
 def run(args):

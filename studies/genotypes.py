@@ -4,10 +4,11 @@
   zuldokan genotypes tierra.bank --as tie --only 0044aac > 0044aac.tie
   zuldokan genotypes tierra.hold --as listing --only 0044aac > 0044aac.listing
 
-FASTA has a letter for each instruction, by the order of the codes: A to Z stand for 00 to 19, and 2 to 7 for 1a to 1f (hexadecimal).
-That is the alphabet of base32 (RFC 4648). The head of a record is the name, then the quantum that saved the genotype, or of its first
-individual, its parent and its efforts, as `key=value`. A .tie has Tierra's names of instructions, and its header as far as it is known
-here: the genotype, its parent, and what its first two daughters cost. `zuldokan listing` reads FASTA and .tie back.
+FASTA has a letter for each instruction, by the order of the codes: A to Z stand for 00 to 19, and 2 to 7 for 1a to 1f (hexadecimal). That
+is the alphabet of base32 (RFC 4648). `seqkit --seq-type unlimit`, `mafft --text`, Biopython and scikit-bio's `Sequence` take it. The head
+of a record is the name, then the quantum that saved the genotype, or of its first individual, its parent and its efforts, as `key=value`.
+A .tie has Tierra's names of instructions, and its header as far as it is known here: the genotype, its parent, and what its first two
+daughters cost. `zuldokan listing` reads FASTA and .tie back.
 """
 import sys
 
@@ -38,7 +39,12 @@ def all_in(path, digest=None):
     worlds = files.read_hold(path, digest)
     if not worlds:
         raise Refused(f"{path} holds no checkpoint")
-    table, found = worlds[-1].genotypes, {}
+    return all_of(worlds[-1])
+
+
+def all_of(world):
+    """The genotypes of a world, by name. `quantum` is that of the first individual."""
+    table, found = world.genotypes, {}
     for row in table.itertuples():
         efforts = {effort: None if pandas.isna(getattr(row, effort)) else int(getattr(row, effort)) for effort in files.EFFORTS}
         parent = None if pandas.isna(row.parent) else table.name[row.parent]

@@ -6,7 +6,8 @@
 A genotype's parent is the genotype of its first individual's mother. The columns of the standard
 (https://alife-data-standards.github.io): id; ancestor_list, `[NONE]` or `[3]`; origin_time; destruction_time; taxon_label; sequence
 (two hexadecimal digits an instruction). Then: size (instructions); first_run, first_moved, second_run, second_moved (instructions run
-and cells moved for the first and second daughter); last_seen. Times are in quanta.
+and cells moved for the first and second daughter); last_seen; abundance (individuals that ever lived) and living (at the last
+checkpoint). Times are in quanta. A genebank does not say how many lived.
 
 From checkpoints every genotype that ever lived is known. origin_time is the quantum of its first individual. A genotype that lives no
 more at the last checkpoint was gone between `last_seen` (empty if no checkpoint saw it) and `destruction_time`, the first checkpoint
@@ -17,8 +18,9 @@ or one of its descendants. Parents that the genebank lacks are named on standard
 column missing_parent has their names. To have all: `save_at = 1` in the soup file, or the checkpoints of `tierra hold`.
 
 Newick: a line for each root; the length of a branch is the time from a parent's origin_time to its own. Every genotype is a node with
-its name, also one that has descendants.
+its name, also one that has descendants: ete3 calls this format 1, and reads it by `ete3.Tree(line, format=1)`.
 """
+import collections
 import pathlib
 import sys
 
@@ -44,7 +46,7 @@ def of_worlds(worlds):
     seen = {}
     for place, world in enumerate(worlds):
         seen.update(dict.fromkeys(map(int, world.records["genotype"]), place))
-    rows = []
+    rows, living = [], collections.Counter(map(int, last.records["genotype"]))
     for row in last.genotypes.itertuples():
         place, later = seen.get(row.genotype), [time for time in times if time >= row.first_quantum]
         if place is None:
@@ -54,8 +56,9 @@ def of_worlds(worlds):
         ancestor = "[NONE]" if pandas.isna(row.parent) else f"[{row.parent}]"
         efforts = [getattr(row, effort) for effort in files.EFFORTS]
         shown = None if place is None else times[place]
-        rows.append([row.genotype, ancestor, row.first_quantum, gone, row.name, row.code.hex(), row.size, *efforts, shown])
-    return typed(pandas.DataFrame(rows, columns=[*COLUMNS, "last_seen"]))
+        begun = [row.genotype, ancestor, row.first_quantum, gone, row.name, row.code.hex(), row.size]
+        rows.append([*begun, *efforts, shown, row.total, living[row.genotype]])
+    return typed(pandas.DataFrame(rows, columns=[*COLUMNS, "last_seen", "abundance", "living"]))
 
 
 def of_bank(saved):

@@ -5,11 +5,14 @@
 
   population   living creatures, and births and deaths between checkpoints on an axis of their own
   sizes        the size of each saved genotype over the quantum that saved it
-  abundance    the living over time, stacked in Muller order: each genotype beside its parent
+  abundance    the living over time, stacked in Muller order: each genotype beside its parent; those without a colour of their own are
+               stacked by size, and what has no colour even so is at most a quarter
   diversity    richness, and Shannon and Simpson on an axis of their own
   roles        living hosts, parasites and others over time, stacked; needs --roles
   tree         the family tree of what lives at the end: a line from the first birth to the checkpoint from which on none lived, and
-               one to its parent; up to 100 genotypes have their names
+               one to its parent, with their names; coloured by role with --roles, and else by size
+  lineage      the line from the founder to the commonest genotype at the end, or to the one that --of names: a row for each genotype, and
+               what descends from one instruction in one column
   map          the soup at a checkpoint, a whole number of pixels a cell, line by line from the top left
   animation    the map of each checkpoint; the ending is .gif or .mp4 (which needs ffmpeg)
 
@@ -21,6 +24,7 @@ import pathlib
 import matplotlib
 
 matplotlib.use("Agg")
+import matplotlib.colors
 import matplotlib.patches
 import matplotlib.pyplot as pyplot
 import numpy
@@ -30,11 +34,19 @@ from matplotlib import animation as films
 from . import abundance as abundances
 from . import diversity as diversities
 from . import frames, phylogeny, roles, soup
+from . import lineage as lineages
 from .refusal import Refused
 
 COLOURS = {"host": "#0072B2", "hyperparasite": "#CC79A7", "self": "#56B4E9", "parasite": "#D55E00", "idle": "#999999"}
-OTHERS = {"daughter being copied": "#F0E442", "left by the dead": "#D0D0D0", "first cell of a creature": "#000000", "empty": "#FFFFFF"}
+OTHERS = {"daughter being copied": "#F0E442", "free, code of the dead": "#D0D0D0", "first cell of a creature": "#000000", "free, nop_0": "#FFFFFF"}
 UNSEEN = "not seen at a checkpoint"
+# What has no colour of its own in the picture of abundance, by size.
+CLASSES = ["#E4E4E4", "#CFCFCF", "#BABABA", "#A5A5A5", "#F2F2F2"]
+# The cells of a lineage, in the order of their shades.
+LINE = {
+    "no instruction": "#FFFFFF", "nop_0": "#E8E8E8", "nop_1": "#C8C8C8", "another instruction": "#9EC5E0", "new in this step": "#E69F00",
+    "lost in this step": "#D55E00",
+}  # fmt: skip
 SERIES = ["#0072B2", "#E69F00", "#009E73", "#CC79A7", "#56B4E9", "#D55E00", "#F0E442", "#999999"]
 STYLE = {"font.size": 9, "axes.spines.top": False, "axes.spines.right": False, "svg.hashsalt": "zuldokan", "axes.axisbelow": True}
 WIDTH = 300  # cells of a line of the map
@@ -47,6 +59,7 @@ def add_arguments(parser):
     parser.add_argument("--soup", help="its soup file, for the title; without it, the file may be of any setup")
     parser.add_argument("--roles", type=pathlib.Path, help="a table of `zuldokan roles`")
     parser.add_argument("--quantum", type=int, help="the checkpoint of a map (default the last one)")
+    parser.add_argument("--of", metavar="NAME", help="the genotype of a lineage (default: the commonest at the end)")
     parser.add_argument("--most", type=int, default=12, help="genotypes with a colour of their own in abundance (default 12)")
     parser.add_argument("--pixels", type=int, default=3, help="pixels a cell in a map or animation (default 3)")
 
@@ -93,6 +106,19 @@ def legend(axis, other=None):
     axis.legend(lines[0][0] + lines[1][0], lines[0][1] + lines[1][1], loc="upper left", bbox_to_anchor=place, frameon=False)
 
 
+def key_beside(axis, colours: dict[str, str]) -> None:
+    """A key of colours at the right of a picture."""
+    edge = {"edgecolor": "#666666", "linewidth": 0.5}
+    key = [matplotlib.patches.Patch(facecolor=colour, label=kind, **edge) for kind, colour in colours.items()]
+    axis.legend(handles=key, loc="upper left", bbox_to_anchor=(1.01, 1), frameon=False)
+
+
+def save(figure, path: pathlib.Path) -> None:
+    """Writes a figure and forgets it."""
+    figure.savefig(path, dpi=100, metadata={"Date": None} if path.suffix == ".svg" else None)
+    pyplot.close(figure)
+
+
 def step_of(worlds):
     """The quanta between two checkpoints, as a text."""
     steps = numpy.unique(numpy.diff([0, *(world.quanta for world in worlds)]))
@@ -130,15 +156,16 @@ def sizes(worlds, title, named=None, **_):
 
 
 def abundance(worlds, title, most=12, **_):
-    table = abundances.abundance(worlds, most=most)
+    table = abundances.with_size_classes(worlds, most)
     figure, axis = axes(f"Living genotypes in Muller order: {title}")
-    shades = [SERIES[k % len(SERIES)] for k in range(table.shape[1])]
-    hatches = ["", "///", "...", "xxx"]
+    hatches, classes = ["", "///", "...", "xxx"], 0
     bands = axis.stackplot(table.index / 1000, table.T.to_numpy(), linewidth=0.3, edgecolor="white")
     for k, (name, band) in enumerate(zip(table.columns, bands)):
-        band.set_facecolor("#D0D0D0" if name == "others" else shades[k])
-        band.set_hatch("" if name == "others" else hatches[k // len(SERIES) % len(hatches)])
+        is_class = name.startswith("others")
+        band.set_facecolor(CLASSES[classes % len(CLASSES)] if is_class else SERIES[k % len(SERIES)])
+        band.set_hatch("" if is_class else hatches[k // len(SERIES) % len(hatches)])
         band.set_label(name)
+        classes += is_class
     axis.set_ylabel("living creatures")
     legend(axis)
     return figure
@@ -174,36 +201,41 @@ def roles_over_time(worlds, title, named=None, **_):
     return figure
 
 
+def kinds_of(table: pandas.DataFrame, named: dict[str, str] | None) -> tuple[dict[str, str], dict[str, str]]:
+    """The kind of each genotype of a tree, its role or else its class of size, and the colour of each kind."""
+    if named:
+        return {name: named.get(name, UNSEEN) for name in table.taxon_label}, {**COLOURS, UNSEEN: "#000000"}
+    kinds = dict(zip(table.taxon_label, map(abundances.size_class, table["size"])))
+    classes = sorted(set(kinds.values()), key=lambda kind: int(kind.split()[0]))
+    return kinds, {kind: SERIES[k % len(SERIES)] for k, kind in enumerate(classes)}
+
+
 def tree(worlds, title, named=None, **_):
     table = phylogeny.of_the_living(phylogeny.of_worlds(worlds))
     parents, end = phylogeny.parents_of(table), worlds[-1].quanta
     numbers = pandas.DataFrame({"genotype": table.id, "parent": pandas.Series([parents[one] for one in table.id], dtype=object)})
     place = {one: k for k, one in enumerate(abundances.muller_order(numbers))}
-    figure, axis = axes(f"Ancestors of the living: {title}", height=max(3, min(12, 1.5 + 0.11 * len(table))))
-    begun = dict(zip(table.id, table.origin_time))
+    figure, axis = axes(f"Ancestors of the living: {title}", height=max(3, min(100, 1.5 + 0.085 * len(table))))
+    begun, kinds, colours = dict(zip(table.id, table.origin_time)), *kinds_of(table, named)
     for row in table.itertuples():
         until = end if pandas.isna(row.destruction_time) else row.destruction_time
-        colour = COLOURS.get((named or {}).get(row.taxon_label), "#000000")
+        colour = colours[kinds[row.taxon_label]]
         axis.plot([row.origin_time / 1000, until / 1000], [place[row.id]] * 2, color=colour, linewidth=1.2)
         if parents[row.id] is not None:
             axis.plot([begun[row.id] / 1000] * 2, [place[parents[row.id]], place[row.id]], color="#BBBBBB", linewidth=0.5, zorder=0)
-        if len(table) < 100:
-            end_of_line = (until / 1000, place[row.id])
-            axis.annotate(row.taxon_label, end_of_line, xytext=(2, 0), textcoords="offset points", fontsize=5, va="center")
+        axis.annotate(row.taxon_label, (until / 1000, place[row.id]), xytext=(2, 0), textcoords="offset points", fontsize=5, va="center")
     axis.set_yticks([])
     axis.set_ylabel("genotypes, each below its parent")
     axis.invert_yaxis()
-    used = {(named or {}).get(name, UNSEEN) for name in table.taxon_label} if named else set()
-    key = [matplotlib.patches.Patch(color=COLOURS.get(kind, "#000000"), label=kind) for kind in [*roles.ROLES, UNSEEN] if kind in used]
-    if key:
-        axis.legend(handles=key, loc="upper left", bbox_to_anchor=(1.05, 1), frameon=False)
+    key = [matplotlib.patches.Patch(color=colour, label=kind) for kind, colour in colours.items() if kind in set(kinds.values())]
+    axis.legend(handles=key, loc="upper left", bbox_to_anchor=(1.05, 1), frameon=False)
     return figure
 
 
 def map_of(world, named=None, pixels=3):
     """The colours of the soup, line by line, so many pixels a cell."""
     colour = {name: numpy.array([int(text[k : k + 2], 16) for k in (1, 3, 5)], "uint8") for name, text in {**COLOURS, **OTHERS}.items()}
-    shown = numpy.where((world.cells != 0)[:, None], colour["left by the dead"], colour["empty"])
+    shown = numpy.where((world.cells != 0)[:, None], colour["free, code of the dead"], colour["free, nop_0"])
     names = world.genotypes.name
     for row in world.creatures[["at", "size", "daughter_at", "daughter_size", "genotype"]].itertuples(index=False):
         shown[row.daughter_at : row.daughter_at + row.daughter_size] = colour["daughter being copied"]
@@ -256,9 +288,37 @@ def animation(worlds, title, out, named=None, pixels=3):
     pyplot.close(figure)
 
 
+def cells_of(steps: list[lineages.Step]) -> tuple[numpy.ndarray, numpy.ndarray]:
+    """What each genotype of a line has in each column (the code, or -1), and which of it is new there, or gone."""
+    columns, width = lineages.columns_of(steps)
+    cells = numpy.full((len(steps), width), -1)
+    for row, (step, places) in enumerate(zip(steps, columns)):
+        cells[row, places] = list(step.one.code)
+    new = numpy.zeros(cells.shape, bool)
+    new[1:] = cells[1:] != cells[:-1]
+    return cells, new
+
+
+def lineage(worlds, title, of=None, **_):
+    steps = lineages.steps_in(worlds, of)
+    cells, new = cells_of(steps)
+    shades = numpy.select([cells == -1, new & (cells >= 0), cells == 0, cells == 1], [0, 4, 1, 2], 3)
+    shades[new & (cells == -1)] = 5
+    figure, axis = axes(f"The line to {steps[-1].one.name}: {title}", height=max(2.5, 1.2 + 0.22 * len(steps)))
+    axis.grid(False)
+    axis.imshow(shades, cmap=matplotlib.colors.ListedColormap(list(LINE.values())), vmin=0, vmax=5, aspect="auto", interpolation="none")
+    axis.set_yticks(range(len(steps)), [f"{step.one.name}  {step.one.quantum:,}" for step in steps], fontsize=7)
+    axis.set_xlabel("place in the founder, with what was put in")
+    axis.set_ylabel("genotype, quantum of its first birth")
+    for row, place in zip(*numpy.nonzero(new & (cells >= 0))):
+        axis.text(place, row, soup.INSTRUCTIONS[cells[row, place]], fontsize=5, ha="center", va="center", rotation=45)
+    key_beside(axis, LINE)
+    return figure
+
+
 KINDS = {
     "population": population, "sizes": sizes, "abundance": abundance, "diversity": diversity, "roles": roles_over_time, "tree": tree,
-    "map": soup_map, "animation": animation,
+    "lineage": lineage, "map": soup_map, "animation": animation,
 }  # fmt: skip
 
 
@@ -273,6 +333,5 @@ def run(args):
         if args.kind == "animation":
             animation(worlds, title, args.out, named, args.pixels)
             return
-        figure = KINDS[args.kind](worlds, title, named=named, most=args.most, quantum=args.quantum, pixels=args.pixels)
-        figure.savefig(args.out, dpi=100, metadata={"Date": None} if args.out.suffix == ".svg" else None)
-        pyplot.close(figure)
+        figure = KINDS[args.kind](worlds, title, named=named, most=args.most, quantum=args.quantum, pixels=args.pixels, of=args.of)
+        save(figure, args.out)

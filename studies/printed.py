@@ -1,4 +1,4 @@
-"""Reads what the program prints: the report, the dump, the curve and the answers of `probe` (docs/tierra.1)."""
+"""Reads what the program prints: the report, the dump and the curve (docs/tierra.1)."""
 import re
 
 import pandas
@@ -38,17 +38,16 @@ def creatures_in(text):
     return table.astype({column: "int64" for column in table.columns if column != "name"})
 
 
+def events_in(text: str) -> tuple[list[tuple[int, int]], list[tuple[int, int]]]:
+    """The births and the deaths that a curve tells, each as its quantum and the creature's number."""
+    rows = [line.split() for line in text.splitlines()]
+    births, deaths = ([(int(row[1]), int(row[2])) for row in rows if row[0] == kind] for kind in ("birth", "death"))
+    return births, deaths
+
+
 def curve_in(text):
     """The counts of a curve: quantum, living, births, deaths."""
     rows = [line.split()[1::2] for line in text.splitlines() if line.startswith("at ")]
     if not rows:
         raise Refused("no curve: it has no line `at ..`")
     return pandas.DataFrame(rows, columns=["quantum", "living", "births", "deaths"]).astype("int64")
-
-
-def probes_in(text):
-    """Whether each genotype that was probed has a daughter when it is alone, by its name."""
-    rows = [line.split() for line in text.splitlines()]
-    if not rows or any(len(row) < 5 or row[1] != "first" for row in rows):
-        raise Refused("no answers of `probe`: a line of them is `NAME first .. second ..`")
-    return {row[0]: row[2] != "none" for row in rows}

@@ -5,12 +5,14 @@ import os
 import pathlib
 import shutil
 import subprocess
+import sys
 import tempfile
 
 from .refusal import Refused
 
 TOP = pathlib.Path(__file__).resolve().parent.parent
 MEMORY = "/dev/shm"
+UNPROVED_SPEED = 1860  # quanta a second of the program that `./tierra --unproved` builds
 
 
 def add_argument(parser):
@@ -33,6 +35,14 @@ def find(named=None):
 def digest(path):
     """The SHA-256 of the program's file, which tells one build from another."""
     return hashlib.sha256(pathlib.Path(path).read_bytes()).hexdigest()
+
+
+def forecast(path: str, quanta: float) -> None:
+    """Says first that so many quanta, one after another, take an unproved program more than a minute."""
+    minutes = quanta / UNPROVED_SPEED / 60
+    if os.path.basename(os.path.realpath(path)) == "unproved" and minutes > 1:
+        line = f"this takes the unproved program some {minutes:.0f} minutes; the proved one is some 150 times as fast"
+        print(f"zuldokan: {line}", file=sys.stderr, flush=True)
 
 
 def commit():

@@ -17,9 +17,9 @@ import hashlib
 import pathlib
 
 import pandas
-import tqdm
 
 from . import files, program, soup, sweep
+from .progress import Progress
 from .refusal import Refused
 
 
@@ -47,8 +47,7 @@ def next_text(document, seed, leg, world):
     if not len(world.records):
         raise Refused(f"nobody lived at the end of leg {leg - 1}")
     placed = [(at, bytes(world.cells[at : at + size]), None) for at, size in world.records[["at", "size"]].tolist()]
-    settled = soup.with_creatures(document, placed)
-    settled["seed"] = seed_of(seed, leg)
+    settled = soup.with_settings(soup.with_creatures(document, placed), {"seed": seed_of(seed, leg)})
     try:
         text = soup.text_of(settled)
     except Refused as fault:
@@ -85,9 +84,12 @@ def run_leg(folder, text, quanta, path, with_genebank):
 def relay(document, quanta, legs, top, path, with_genebank=True):
     """Runs the legs, and gives their last worlds."""
     seed, worlds = soup.settings(document)["seed"], []
-    for leg in tqdm.tqdm(range(1, legs + 1), unit="leg", disable=None):
-        text = next_text(document, seed, leg, worlds[-1]) if worlds else first_text(document, seed)
-        worlds.append(run_leg(top / f"leg{leg}", text, quanta, path, with_genebank))
+    program.forecast(path, quanta * legs * (2 if with_genebank else 1))
+    with Progress(legs, "leg") as told:
+        for leg in range(1, legs + 1):
+            text = next_text(document, seed, leg, worlds[-1]) if worlds else first_text(document, seed)
+            worlds.append(run_leg(top / f"leg{leg}", text, quanta, path, with_genebank))
+            told.step()
     return worlds
 
 

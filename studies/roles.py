@@ -10,18 +10,20 @@ For each creature two places are looked up: `runs`, whose cell its ip is at, and
 `daughter` (its own daughter block), `other` (another creature's block or daughter block) or `free`; `copies` is empty unless ax lies in
 the creature's daughter block. The genome's start is then bx - (ax - the daughter's first cell). What is looked up is its third cell,
 since ax and bx are not moved at once.
-The role of a genotype follows from all its creatures that were seen, and from whether it has a daughter when it is alone: with the
-ancestor's settings and for 1,000 quanta, as `probe` runs it.
+The role of a genotype follows from all its creatures that were seen, and from what becomes of it when it is run alone. It is fertile if
+it breeds true, or breeds another from which some steps lead to one that does: `zuldokan assay --help` has the rule, and the words
+for settings, quanta and the file of results are the same here.
 
-  parasite        runs cells of others, and alone has no daughter
-  hyperparasite   alone has a daughter, and of the parasites that were seen copying in its cells, at least three, more than half
-                  copied its own genome
-  host            alone has a daughter, and a parasite ran its cells
-  self            alone has a daughter, and no parasite was seen in its cells
-  idle            alone has no daughter, and was never seen to run cells of others
+  parasite        runs cells of others, and is not fertile alone
+  hyperparasite   is fertile alone, and of the parasites that were seen copying in its cells, at least three, more than half copied
+                  its own genome
+  host            is fertile alone, and a parasite ran its cells
+  self            is fertile alone, and no parasite was seen in its cells
+  idle            is not fertile alone, and was never seen to run cells of others
 
-In the table of genotypes, seen counts its creatures at all checkpoints, runs_own to runs_free where they ran, visits the parasites that
-ran its cells, copying those of them that were copying a genome, and robbed those that were copying its own.
+In the table of genotypes, seen counts its creatures at all checkpoints, runs_own to runs_free where they ran, fate and fertile are those
+of `assay`, visits the parasites that ran its cells, copying those of them that were copying a genome, and robbed those that were copying
+its own. said tells in a line what was run and seen.
 
 A checkpoint is one moment: a genotype that lives between two checkpoints is not seen. Counts are of creatures at checkpoints.
 """
@@ -31,9 +33,8 @@ import sys
 import networkx
 import numpy
 import pandas
-import tqdm
 
-from . import files, printed, program, soup
+from . import alone, assay, files, printed, soup
 from .refusal import Refused
 
 ROLES = ["host", "hyperparasite", "self", "parasite", "idle"]
@@ -43,12 +44,11 @@ PLACES = ["own", "daughter", "other", "free"]
 def add_arguments(parser):
     parser.add_argument("file", help="a file of checkpoints, or a dump; - for a dump from standard input")
     parser.add_argument("--soup", help="the soup file of the checkpoints; without it, they may be of any setup")
-    parser.add_argument("--probe", type=pathlib.Path, help="what `tierra probe` printed; else each genotype that must be is run alone")
     shown = parser.add_mutually_exclusive_group()
     shown.add_argument("--creatures", action="store_true", help="a row for each creature, without roles")
     shown.add_argument("--counts", action="store_true", help="how many creatures of each role live, over time")
     parser.add_argument("--graph", type=pathlib.Path, help="write the graph of who runs in whom to this file (GraphML)")
-    program.add_argument(parser)
+    alone.add_arguments(parser)
 
 
 def owners_of(creatures, size):
@@ -98,44 +98,36 @@ def seen_in(worlds):
     return pandas.concat(tables, ignore_index=True)
 
 
-def is_alone_fertile(code, path, quanta=1000):
-    """Whether a genotype has a daughter when it is alone, by `grow`, which has the settings and quanta of `probe`."""
-    with program.scratch(10**6) as room:
-        counts, _ = printed.report_in(program.run(path, ["grow", "--quanta", quanta], soup.listing_of_code(code), room))
-    return counts["births"] > 0
-
-
-def fertile(names, codes, probed, named):
-    """Whether each of these genotypes has a daughter when it is alone, by its name."""
-    left = [name for name in names if name not in probed]
-    path = program.find(named) if left else None
-    told = tqdm.tqdm(names, unit="genotype", disable=None)
-    return {name: probed[name] if name in probed else is_alone_fertile(codes[name], path) for name in told}
-
-
-def roles(seen, alone):
-    """The table of genotypes: how many of its creatures were seen, where they ran, and the role. `alone` says of each name whether it
-    has a daughter when it is alone."""
+def roles(seen: pandas.DataFrame, fates: pandas.DataFrame) -> pandas.DataFrame:
+    """The table of genotypes: how many of its creatures were seen, where they ran, and the role. `fates` is the table of `assay`."""
     where = seen.groupby(["name", "runs"]).size().unstack(fill_value=0).reindex(columns=PLACES, fill_value=0)
     table = where.add_prefix("runs_").astype("int64")
     table.insert(0, "seen", where.sum(axis=1))
-    table["alone"] = [alone[name] for name in table.index]
-    parasites = set(table.index[(table.runs_other > 0) & ~table.alone])
+    table[["fate", "fertile"]] = fates.set_index("name")[["fate", "fertile"]].loc[table.index]
+    parasites = set(table.index[(table.runs_other > 0) & ~table.fertile])
     visits = seen[(seen.runs == "other") & seen.name.isin(parasites)]
     table["visits"] = visits.groupby("runs_name").size().reindex(table.index, fill_value=0)
     table["copying"] = visits.groupby("runs_name").copies.count().reindex(table.index, fill_value=0)
     table["robbed"] = visits.groupby("runs_name").copies_host.sum().reindex(table.index, fill_value=0)
     table["role"] = [role_of(row.Index in parasites, row) for row in table.itertuples()]
+    said = fates.set_index("name").said
+    table["said"] = [f"{said_of(row)}; {said[row.Index]}" for row in table.itertuples()]
     return table
 
 
 def role_of(is_parasite, row):
     """The role of a genotype, from its row of the table."""
-    if not row.alone:
+    if not row.fertile:
         return "parasite" if is_parasite else "idle"
     if not row.visits:
         return "self"
     return "hyperparasite" if row.copying >= 3 and 2 * row.robbed > row.copying else "host"
+
+
+def said_of(row) -> str:
+    """What was seen of a genotype, from its row of the table."""
+    said = f"{row.seen} seen with {row.runs_other} in cells of others; {row.visits} parasites in its cells"
+    return said + (f" with {row.copying} copying and {row.robbed} of these its own genome" if row.copying else "")
 
 
 def counts(seen, table):
@@ -190,8 +182,7 @@ def run(args):
     if args.creatures:
         seen.to_csv(sys.stdout, index=False)
         return
-    probed = printed.probes_in(soup.text_in(args.probe)) if args.probe else {}
-    table = roles(seen, fertile(sorted(set(seen.name)), codes, probed, args.program))
+    table = roles(seen, assay.table_of({name: codes[name] for name in sorted(set(seen.name))}, alone.bench_of(args)))
     if args.graph:
         networkx.write_graphml(graph(seen, table), args.graph)
     shown = counts(seen, table) if args.counts else table

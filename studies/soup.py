@@ -7,6 +7,7 @@ import tomllib
 
 import tomlkit
 import tomlkit.exceptions
+import tomlkit.items
 
 from .refusal import Refused
 
@@ -94,9 +95,27 @@ def creatures(document):
         raise Refused("the soup file lacks a creature with `at` and `code`") from fault
 
 
+def without_lines_of_comment(document):
+    """Takes out the comments that have a line of their own: they tell of the file as it was. Gives the document."""
+    for _, item in document.body:
+        if isinstance(item, tomlkit.items.Comment):
+            item.trivia.comment = item.trivia.indent = item.trivia.trail = ""
+    return document
+
+
+def with_settings(document, settings):
+    """A copy of a document with these settings. No comment stays that was said of another value, or of the file as it was."""
+    changing = copy.deepcopy(document)
+    others = {key: value for key, value in settings.items() if document.unwrap().get(key) != value}
+    for key, value in others.items():
+        changing[key] = value
+        changing.item(key).trivia.comment = changing.item(key).trivia.comment_ws = ""
+    return without_lines_of_comment(changing) if others else changing
+
+
 def with_creatures(document, placed):
     """A copy of a document with these creatures, each a place, a code and a comment, in place of its own."""
-    changing = copy.deepcopy(document)
+    changing = without_lines_of_comment(copy.deepcopy(document))
     changing.pop("creature", None)
     tables = tomlkit.aot()
     for at, code, comment in placed:

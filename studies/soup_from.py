@@ -7,7 +7,6 @@ Each `--put` names a genebank, a file of checkpoints, or a listing (FILE.listing
 individuals begin. The settings are those of the file `--like`, with `--set` and `--seed` on top. Blocks that overlap or end past the
 last cell are refused, and so is a file that would be longer than the program takes.
 """
-import copy
 import re
 import sys
 
@@ -61,11 +60,6 @@ def made(document, placed):
 
 
 def run(args):
-    document = copy.deepcopy(soup.read(args.like))
-    for key, values in sweep.values_of(args.set).items():
-        if len(values) != 1:
-            raise Refused(f"--set {key}: one value was expected")
-        document[key] = values[0]
-    if args.seed is not None:
-        document["seed"] = soup.seed_text(args.seed)
+    settings = {} if args.seed is None else {"seed": soup.seed_text(args.seed)}
+    document = soup.with_settings(soup.read(args.like), sweep.one_value_of(args.set) | settings)
     sys.stdout.write(made(document, [one for word in args.put for one in placed_by(word)]))

@@ -3,23 +3,20 @@
   zuldokan sweep ../examples/parasites.toml --set copy_rate=500,1000 --seeds 0-63 --quanta 1000000
 
 A folder gets its soup file `soup.toml`, what the program prints (`run.txt`, `hold.txt` or `curve.txt`), the file that the
-program keeps, `notes.json` (what was asked, the digest of the setup, the command, the program's SHA-256, the commit of the
-repository) and `times.json` (UTC, and seconds). Each soup file is read back before anything runs, and no two may be one setup.
-A folder with `notes.json` is finished and is left alone. A sweep that was interrupted goes on when it is started again.
+program keeps, and `notes.json`: version, commit, program and kit, whether it is proved, host, times, words, seed and digests. Each soup
+file is read back before anything runs, and no two may be one setup. A comment of a value that was changed is left out, and so are lines
+of comment alone. A folder with `notes.json` is finished and is left alone. A sweep that was interrupted goes on when it is started again.
 Each quantum is run once: `run` keeps a genebank, `hold` checkpoints, and `curve` prints births and deaths.
 """
 import concurrent.futures
-import copy
-import datetime
 import itertools
 import json
 import os
 import pathlib
 import re
 
-import tqdm
-
-from . import files, program, soup
+from . import files, notes, program, soup
+from .progress import Progress
 from .refusal import Refused
 
 KEPT = {"run": "tierra.bank", "hold": "tierra.hold", "curve": None}
@@ -61,6 +58,15 @@ def values_of(words):
     return values
 
 
+def one_value_of(words: list[str]) -> dict:
+    """The value that the words of `--set` give to each key."""
+    values = values_of(words)
+    for key, some in values.items():
+        if len(some) != 1:
+            raise Refused(f"--set {key}: one value was expected")
+    return {key: some[0] for key, some in values.items()}
+
+
 def asked_for(values, seeds):
     """What each run asks for, by the name of its folder: the settings to put into the soup file."""
     asked = {}
@@ -79,10 +85,7 @@ def asked_for(values, seeds):
 
 def changed(document, settings):
     """The text of a document with these settings, read back by another reader of TOML: it says what was asked and no more."""
-    changing = copy.deepcopy(document)
-    for key, value in settings.items():
-        changing[key] = value
-    text = soup.text_of(changing)
+    text = soup.text_of(soup.with_settings(document, settings))
     said, before = soup.plain(text), document.unwrap()
     if said != before | settings:
         raise Refused(f"the soup file does not take {', '.join(settings)}: it would say something else")
@@ -110,11 +113,7 @@ def replace(path, text):
     os.replace(part, path)
 
 
-def now():
-    return datetime.datetime.now(datetime.timezone.utc)
-
-
-def is_finished(folder, notes):
+def is_finished(folder, known):
     """Whether a folder has this run already. A folder with another run is refused."""
     path = folder / "notes.json"
     if not path.exists():
@@ -123,22 +122,22 @@ def is_finished(folder, notes):
         kept = json.loads(path.read_text())
     except ValueError as fault:
         raise Refused(f"{path} is damaged") from fault
-    for key in ("setup", "command", "program"):
-        if kept.get(key) != notes[key]:
-            raise Refused(f"{folder} has a run of another {key}: take another folder")
+    for key, what in (("setup", "setup"), ("words", "command"), ("program", "program")):
+        if kept.get(key) != known[key]:
+            raise Refused(f"{folder} has a run of another {what}: take another folder")
     return True
 
 
-def do_run(folder, text, notes, named):
-    """Does one run in its folder, unless it is finished. Gives whether it ran."""
-    if is_finished(folder, notes):
+def do_run(folder, text, known, named):
+    """Does one run in its folder, unless it is finished. Gives whether it ran. What is known of it beforehand is noted at its end."""
+    if is_finished(folder, known):
         return False
     folder.mkdir(parents=True, exist_ok=True)
-    path, begun = folder / "soup.toml", now()
+    path, begun = folder / "soup.toml", notes.now()
     if path.exists() and path.read_text(encoding="utf-8") != text:
         raise Refused(f"{folder} has another soup file: take another folder")
     replace(path, text)
-    words = notes["command"].split()
+    words = known["words"].split()
     part = folder / f"{words[0]}.txt.part"
     try:
         with open(part, "wb") as out:
@@ -147,13 +146,11 @@ def do_run(folder, text, notes, named):
     except Refused as fault:
         raise Refused(f"{folder.name}: {fault}") from fault
     kept = KEPT[words[0]]
-    if kept and files.setup_of(folder / kept).hex() != notes["setup"]:
+    if kept and files.setup_of(folder / kept).hex() != known["setup"]:
         raise Refused(f"{folder.name}: the program read another setup than the soup file says")
     os.replace(part, part.with_suffix(""))
-    ended = now()
-    times = {"begun": begun.isoformat(), "ended": ended.isoformat(), "seconds": round((ended - begun).total_seconds(), 3)}
-    replace(folder / "times.json", json.dumps(times, indent=1) + "\n")
-    replace(folder / "notes.json", json.dumps(notes, indent=1) + "\n")
+    made = notes.of_files(folder, [path.name, f"{words[0]}.txt", *filter(None, [kept])])
+    replace(folder / "notes.json", json.dumps({**known, **notes.of_times(begun), **made}, indent=1) + "\n")
     return True
 
 
@@ -180,6 +177,25 @@ def chosen(texts, one):
     raise Refused(f"--one: there is no run {one} among {len(texts)}")
 
 
+def run_all(top: pathlib.Path, runs: dict[str, tuple[str, dict]], command: str, named: str, jobs: int) -> None:
+    """Does runs side by side, each in its folder: its soup file and what was asked for, by the folder's name."""
+    shared, waiting = notes.of_program(named), []
+    for name, (text, asked) in runs.items():
+        known = {**shared, **notes.of_setup(text, command), "asked": asked}
+        if not is_finished(top / name, known):
+            waiting.append((top / name, text, known, named))
+    program.forecast(named, int(command.split()[2]) * len(waiting) / jobs)
+    with Progress(len(waiting), "run") as told, concurrent.futures.ThreadPoolExecutor(jobs) as pool:
+        running = [pool.submit(do_run, *job) for job in waiting]
+        try:
+            for done in concurrent.futures.as_completed(running):
+                done.result()
+                told.step()
+        except BaseException:
+            pool.shutdown(wait=False, cancel_futures=True)
+            raise
+
+
 def run(args):
     seeds = seeds_of(args.seeds) if args.seeds else [None]
     asked = asked_for(values_of(args.set), seeds)
@@ -191,17 +207,4 @@ def run(args):
     if args.jobs < 1:
         raise Refused("--jobs is at least 1")
     named, top = program.find(args.program), pathlib.Path(args.into)
-    shared = {"command": command, "program": program.digest(named), "commit": program.commit()}
-    jobs = []
-    for name in names:
-        notes = {"asked": asked[name], "setup": soup.digest(soup.plain(texts[name])).hex(), **shared}
-        is_finished(top / name, notes)
-        jobs.append((top / name, texts[name], notes, named))
-    with concurrent.futures.ThreadPoolExecutor(args.jobs) as pool:
-        running = [pool.submit(do_run, *job) for job in jobs]
-        try:
-            for done in tqdm.tqdm(concurrent.futures.as_completed(running), total=len(running), unit="run", disable=None):
-                done.result()
-        except BaseException:
-            pool.shutdown(wait=False, cancel_futures=True)
-            raise
+    run_all(top, {name: (texts[name], asked[name]) for name in names}, command, named, args.jobs)

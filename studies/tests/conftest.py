@@ -5,7 +5,7 @@ import sys
 
 import pytest
 
-from studies import main, program
+from studies import main, program, progress
 from studies.refusal import Refused
 
 TOP = program.TOP
@@ -29,6 +29,12 @@ digest = bytes(32) if "STAND_IN_LIES" in os.environ else soup.digest(document)
 pathlib.Path("tierra.bank").write_bytes(b"Tierra bank1" + digest + bytes(1))
 print(f"quanta {{quanta}}\\nbirths 0\\ndeaths 0\\nliving 1\\nfilled 80\\ngenotypes 1\\nkept 0\\n0080aaa 1 1")
 '''
+
+
+@pytest.fixture(autouse=True)
+def untold(monkeypatch):
+    """No line of progress, however slow the machine is."""
+    monkeypatch.setattr(progress, "EVERY", 3600)
 
 
 @pytest.fixture

@@ -8,6 +8,7 @@ import sys
 import tempfile
 
 import numpy
+import pandas
 import pytest
 from PIL import Image
 
@@ -101,12 +102,40 @@ def test_scikit_bio_reads_the_fasta(told, tmp_path):
     assert read == {name: genotypes.letters(one.code) for name, one in genotypes.all_in(HOLD).items()}
 
 
+@peer("seqkit")
+def test_seqkit_reads_the_fasta(told, tmp_path):
+    (tmp_path / "genotypes.fasta").write_text(told("genotypes", HOLD))
+    asked = ["seqkit", "fx2tab", "--seq-type", "unlimit", "--only-id", "genotypes.fasta"]
+    said = subprocess.run(asked, cwd=tmp_path, check=True, capture_output=True, text=True).stdout
+    read = dict(line.split("\t")[:2] for line in said.splitlines())
+    assert read == {name: genotypes.letters(one.code) for name, one in genotypes.all_in(HOLD).items()}
+
+
+@peer("mafft")
+def test_mafft_aligns_the_fasta(told, tmp_path):
+    """With --text. Without its gaps each row is the genotype, and a parasite stands beside the cells of the ancestor that it kept."""
+    (tmp_path / "genotypes.fasta").write_text(told("genotypes", HOLD))
+    asked = ["mafft", "--text", "--quiet", "genotypes.fasta"]
+    said = subprocess.run(asked, cwd=tmp_path, check=True, capture_output=True, text=True).stdout
+    rows = {part.split()[0]: "".join(part.splitlines()[1:]) for part in said.split(">")[1:]}
+    found = genotypes.all_in(HOLD)
+    assert {name: row.replace("-", "") for name, row in rows.items()} == {name: genotypes.letters(one.code) for name, one in found.items()}
+    same = sum(one == other for one, other in zip(rows["0080aaa"], rows["0044aad"]))
+    assert len({len(row) for row in rows.values()}) == 1 and same > 30
+
+
 def test_soup_from(told):
     put = ["--put", f"{BANK}:0044aad@100,200", "--put", f"{TOP}/examples/0080aaa.listing@0"]
     said = soup.plain(told("soup_from", "--like", SOUP, *put, "--seed", 7, "--set", "copy_rate=0"))
     parasite = genotypes.all_in(BANK)["0044aad"].code
     assert soup.creatures(said) == [(100, parasite), (200, parasite), (0, ANCESTOR)]
     assert said["seed"] == f"{7:064x}" and said["copy_rate"] == 0 and said["back_rate"] == 10000
+
+
+def test_soup_from_says_nothing_of_other_values(told):
+    text = told("soup_from", "--like", SOUP, "--put", f"{BANK}:0044aad@0", "--set", "copy_rate=500", "--set", "slice_size=25")
+    assert "copy_rate = 500\n" in text and "one copy in" not in text and "Every key of a soup file" not in text
+    assert "slice_size = 25          # instructions of a quantum\n" in text and f"# 0044aad of {BANK}\n" in text
 
 
 @pytest.mark.parametrize(
@@ -221,14 +250,15 @@ def test_a_relay_is_one_isle(tmp_path, told, refused, built):
 def roles_file(tmp_path_factory):
     seen = roles.seen_in(files.read_hold(HOLD))
     path = tmp_path_factory.mktemp("roles") / "roles.csv"
-    roles.roles(seen, {name: name.startswith("0080") for name in seen.name.unique()}).to_csv(path)
+    fates = pandas.DataFrame({"name": seen.name.unique(), "fate": "true", "said": "alone"})
+    roles.roles(seen, fates.assign(fertile=fates.name.str.startswith("0080"))).to_csv(path)
     return path
 
 
 # What a text of each picture tells: a unit, or a row of its key.
 UNITS = {
     "population": "births, deaths per 400 quanta", "sizes": "instructions", "abundance": "living creatures", "diversity": "Shannon (nats)",
-    "roles": "hyperparasite", "tree": "each below its parent", "map": "300 cells a line",
+    "roles": "hyperparasite", "tree": "each below its parent", "map": "300 cells a line", "lineage": "new in this step",
 }  # fmt: skip
 
 
@@ -240,6 +270,14 @@ def test_pictures(told, tmp_path, roles_file, kind):
     assert "mixed.toml, seed 5" in shown and UNITS[kind] in shown
     told("picture", kind, HOLD, tmp_path / "out.png", *words)
     assert Image.open(tmp_path / "out.png").size[0] > 500
+
+
+def test_a_tree_has_names_and_colours(told, tmp_path):
+    """Without roles too: each genotype has its name, and each class of size its colour."""
+    told("picture", "tree", HOLD, tmp_path / "out.svg")
+    shown = (tmp_path / "out.svg").read_text()
+    assert all(name in shown for name in ("0080aaa", "0044aad", "0043aac", "0025aaa", "40 to 49", "80 to 89"))
+    assert len({colour for colour in picture.SERIES if colour.lower() in shown}) >= 3
 
 
 def test_the_map_shows_every_cell():

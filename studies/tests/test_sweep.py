@@ -1,6 +1,9 @@
 """Sweeps: what they ask for is what is run, or nothing is run."""
+import datetime
+import hashlib
 import json
 import os
+import platform
 import resource
 import shutil
 import signal
@@ -11,7 +14,7 @@ import tomllib
 
 import pytest
 
-from studies import soup, sweep
+from studies import files, notes, program, soup, sweep
 from studies.refusal import Refused
 
 from .conftest import DATA, TOP, peer
@@ -21,9 +24,14 @@ COMMAND = [sys.executable, str(TOP / "studies/zuldokan"), "sweep"]
 
 
 def folder_bytes(folder):
-    """Each file of a sweep, but for the times and what the stand-in counts."""
+    """Each file of a sweep, but for the times in its notes and what the stand-in counts."""
     paths = sorted(path for path in folder.rglob("*") if path.is_file() and ".snakemake" not in path.parts)
-    return {str(path.relative_to(folder)): path.read_bytes() for path in paths if path.name not in ("times.json", "starts")}
+    found = {str(path.relative_to(folder)): path.read_bytes() for path in paths if path.name != "starts"}
+    return {name: timeless(data) if name.endswith("notes.json") else data for name, data in found.items()}
+
+
+def timeless(data):
+    return json.dumps({key: value for key, value in json.loads(data).items() if key not in notes.TIMES}).encode()
 
 
 @pytest.mark.parametrize("text, seeds", [("0-3", [0, 1, 2, 3]), ("7", [7]), ("2,5-6", [2, 5, 6])])
@@ -60,9 +68,23 @@ def test_every_form_of_a_soup_file_is_changed(name):
     assert said == tomllib.loads(SPOILED[name]) | {"copy_rate": 2000, "seed": f"{9:064x}"}
 
 
-def test_comments_stay():
-    text = sweep.changed(soup.read(PARASITES), {"copy_rate": 5})
-    assert text == PARASITES.read_text().replace("copy_rate = 1000 ", "copy_rate = 5 ")
+def test_no_comment_of_another_value():
+    """What was said of a value that is changed goes, and so do the lines that tell of the whole file. The rest stays."""
+    text = sweep.changed(soup.read(PARASITES), {"copy_rate": 5, "save_at": 10})
+    lines = PARASITES.read_text().splitlines(keepends=True)
+    assert "# The ancestor in a soup of 60,000 cells" in lines[0] and lines[3].startswith("copy_rate = 1000 ")
+    assert text == "".join(["copy_rate = 5\n" if line == lines[3] else line for line in lines if not line.startswith("#")])
+    assert sweep.changed(soup.read(PARASITES), {"copy_rate": 1000}) == PARASITES.read_text()
+
+
+@pytest.mark.parametrize("built, proved", [("tierra", True), ("unproved", False), ("other", None)])
+def test_notes_say_whether_the_program_is_proved(monkeypatch, tmp_path, built, proved):
+    monkeypatch.setattr(program, "TOP", tmp_path)
+    (tmp_path / "crates/tierra/out").mkdir(parents=True)
+    for name, text in (("crates/tierra/out/kit", "a kit\n"), ("VERSION", "9\n"), ("crates/tierra/out/" + built, "")):
+        (tmp_path / name).write_text(text)
+    noted = notes.of_program(str(tmp_path / "crates/tierra/out" / built))
+    assert (noted["proved"], noted["kit"], noted["version"]) == (proved, "a kit" if proved else None, "9")
 
 
 @pytest.mark.parametrize(
@@ -107,10 +129,14 @@ def test_a_sweep_and_its_notes(tmp_path, told, stand_in, refused):
     words = ["sweep", PARASITES, "--quanta", 5, "--seeds", "0-2", "--into", tmp_path / "sweep", "--jobs", 2]
     told(*words)
     first = folder_bytes(tmp_path / "sweep")
-    notes = json.loads(first["seed2/notes.json"])
-    assert notes["setup"] == soup.digest(soup.parse(first["seed2/soup.toml"].decode())).hex()
-    assert notes["command"] == "run --quanta 5" and notes["asked"] == {"seed": f"{2:064x}"}
-    assert set(json.loads((tmp_path / "sweep/seed2/times.json").read_text())) == {"begun", "ended", "seconds"}
+    noted = json.loads((tmp_path / "sweep/seed2/notes.json").read_text())
+    assert noted["setup"] == soup.digest(soup.parse(first["seed2/soup.toml"].decode())).hex() == files.setup_of(tmp_path / "sweep/seed2/tierra.bank").hex()
+    assert noted["words"] == "run --quanta 5" and noted["asked"] == {"seed": f"{2:064x}"} and noted["seed"] == f"{2:064x}"
+    assert noted["files"] == {name: hashlib.sha256(first["seed2/" + name]).hexdigest() for name in ("soup.toml", "run.txt", "tierra.bank")}
+    assert (noted["version"], noted["host"]) == ((TOP / "VERSION").read_text().strip(), platform.node())
+    assert noted["program"] == hashlib.sha256(stand_in.read_bytes()).hexdigest() and noted["proved"] is None and noted["kit"] is None
+    begun, ended = (datetime.datetime.fromisoformat(noted[key]) for key in ("begun", "ended"))
+    assert begun.utcoffset() == datetime.timedelta(0) and noted["seconds"] == round((ended - begun).total_seconds(), 3) >= 0
     told(*words)
     assert (tmp_path / "sweep/seed2/starts").read_text() == "start\n"  # what is finished is not run again
     assert "a run of another command" in refused(*[6 if word == 5 else word for word in words])

@@ -1,4 +1,5 @@
 """Frames, abundance, diversity, phylogeny and roles, on a run of hosts and parasites in a small soup."""
+import ast
 import csv
 import io
 import math
@@ -8,14 +9,18 @@ import networkx
 import pandas
 import pytest
 
-from studies import abundance, diversity, files, phylogeny, printed, roles
+from studies import abundance, diversity, files, phylogeny, printed, roles, soup
 
 from .conftest import DATA, peer
 
 HOLD, BANK = DATA / "mixed.hold", DATA / "mixed.bank"
 WORLDS = files.read_hold(HOLD)
 COUNTS, LIVING = printed.report_in((DATA / "mixed_dump.txt").read_text())
-PROBED = printed.probes_in((DATA / "mixed_probe.txt").read_text())
+# What becomes of each genotype that was seen, alone: the ancestor breeds true.
+FATES = pandas.DataFrame(
+    [(name, "true", True, "breeds true") if name == "0080aaa" else (name, "sterile", False, "no daughter") for name in WORLDS[-1].genotypes.name],
+    columns=["name", "fate", "fertile", "said"],
+)
 
 
 def rows(text):
@@ -62,6 +67,20 @@ def test_abundance():
     assert sizes[80] == 4 and sizes[44] == 18 and sizes.sum() == COUNTS["living"]
 
 
+def test_few_have_no_colour():
+    """Of those without a column of their own, the classes of size leave at most a quarter of all creatures."""
+    whole = abundance.abundance(WORLDS)
+    for most in (1, 3):
+        table = abundance.with_size_classes(WORLDS, most)
+        assert (table.sum(axis=1) == whole.sum(axis=1)).all()
+        assert "others" not in table or table.others.sum() <= whole.sum().sum() / 4
+        assert [column for column in table if not column.startswith("others")] == list(abundance.abundance(WORLDS, most=most).columns[:-1])
+    classes = abundance.with_size_classes(WORLDS, 1, share=0)
+    sizes = abundance.abundance(WORLDS, by="size")
+    assert classes["others of 40 to 49"].tolist() == (sizes[[43, 44]].sum(axis=1) - whole.get(classes.columns[0], 0) * classes.columns[0].startswith("004")).tolist()
+    assert "others" not in classes and abundance.size_class(80) == "80 to 89" and abundance.size_class(7) == "0 to 9"
+
+
 @pytest.mark.parametrize("parents, order", [([None, 0, 0, 1], [0, 1, 3, 2]), ([None, None, 0, 1, 2], [0, 2, 4, 1, 3])])
 def test_muller_order(parents, order):
     table = pandas.DataFrame({"genotype": range(len(parents)), "parent": pandas.Series(parents, dtype=object)})
@@ -102,6 +121,38 @@ def test_phylogeny(told, tmp_path, path):
     parents = {names[row["id"]]: names.get(row["ancestor_list"][1:-1]) for row in table}
     assert all(parents[one.name] == one.parent for one in files.read_bank(BANK))
     assert parents["0044aad"] == "0044aaa" and parents["0080aaa"] is None
+
+
+def faults_of(table):
+    """What the checks of the ALife data standard for phylogenies find wrong: the columns, the numbers and the lists of ancestors."""
+    faults = [column for column in ("id", "ancestor_list") if column not in table]
+    if table.id.duplicated().any() or not (table.id.astype("int64") >= 0).all():
+        faults.append("id")
+    ids = dict(zip(table.id, table.index))
+    for row in table.itertuples():
+        if row.ancestor_list != "[NONE]" and not set(ast.literal_eval(row.ancestor_list)) <= set(ids) - {row.id}:
+            return [*faults, f"ancestors of {row.id}"]
+    tree = networkx.DiGraph((parent, one) for one, parent in phylogeny.parents_of(table).items() if parent is not None)
+    if not networkx.is_directed_acyclic_graph(tree):
+        faults.append("a circle")
+    times = table.set_index("id").origin_time
+    faults += [f"origin of {one}" for parent, one in tree.edges if times[parent] > times[one]]
+    return faults + [f"end of {row.id}" for row in table.itertuples() if not pandas.isna(row.destruction_time) and row.destruction_time < row.origin_time]
+
+
+@pytest.mark.parametrize("path", [HOLD, BANK, DATA / "mixed_all.bank"])
+def test_the_table_is_of_the_standard(told, path):
+    table = pandas.read_csv(io.StringIO(told("phylogeny", path)))
+    assert faults_of(table) == []
+    assert faults_of(table.assign(ancestor_list=["[99999]", *table.ancestor_list[1:]])) == ["ancestors of 0"]
+    assert faults_of(table.assign(origin_time=table.origin_time.max() - table.origin_time)) != []
+
+
+def test_abundance_in_the_tree():
+    """The report says how many of a genotype live and how many ever lived."""
+    table = phylogeny.of_worlds(WORLDS).set_index("taxon_label")
+    assert {name: (table.living[name], table.abundance[name]) for name in LIVING} == LIVING
+    assert table.living.sum() == COUNTS["living"] and table.abundance.sum() == COUNTS["births"] + len(soup.creatures(soup.read(DATA / "mixed.toml")))
 
 
 def test_times_of_the_tree():
@@ -188,6 +239,21 @@ def test_biopython_reads_the_tree(tmp_path):
     assert found == shapes
 
 
+@peer("ete3")
+def test_ete3_reads_the_tree(tmp_path):
+    """Its format 1 has the names of inner nodes."""
+    import ete3
+
+    path, shapes = trees(tmp_path)
+    found, names = [], []
+    for line in path.read_text().splitlines():
+        tree = ete3.Tree(line, format=1)
+        depths = [len(tip.get_ancestors()) for tip in tree.get_leaves()]
+        found.append((len(depths), max(depths), sum(depths)))
+        names += [node.name for node in tree.traverse()]
+    assert found == shapes and sorted(names) == sorted(name for name in WORLDS[-1].genotypes.name if name != "0080aab")
+
+
 @peer("ape")
 def test_ape_reads_the_tree(tmp_path):
     path, shapes = trees(tmp_path)
@@ -225,15 +291,18 @@ def test_hyperparasites(copying, robbed, role):
     visits = seen.runs == "other"
     seen.loc[visits, "copies"] = "own" if copying else None
     seen["copies_host"] = visits & (visits.cumsum() <= robbed)
-    table = roles.roles(seen, {"0020aaa": True, "0010aaa": False})
+    fates = pandas.DataFrame({"name": ["0020aaa", "0010aaa"], "fate": ["true", "another"], "fertile": [True, False], "said": "alone"})
+    table = roles.roles(seen, fates)
     assert table.role["0020aaa"] == role and table.role["0010aaa"] == "parasite"
 
 
 def test_roles_of_the_run():
     seen = roles.seen_in(WORLDS)
-    alone = {name: PROBED.get(name, False) for name in seen.name.unique()}
-    table = roles.roles(seen, alone)
+    table = roles.roles(seen, FATES)
     assert table.role["0080aaa"] == "host" and table.role["0044aaa"] == "parasite" and table.role["0025aaa"] == "idle"
+    row = table.loc["0025aaa"]
+    assert row.said == f"{row.seen} seen with 0 in cells of others; {row.visits} parasites in its cells; no daughter"
+    assert f"{table.copying['0080aaa']} copying and {table.robbed['0080aaa']} of these its own genome; breeds true" in table.said["0080aaa"]
     counted = roles.counts(seen, table)
     assert counted.sum(axis=1).tolist() == [len(world.records) for world in WORLDS]
     made = roles.graph(seen, table)
@@ -248,14 +317,19 @@ def test_a_dump_shows_what_the_frame_shows():
     assert codes["0044aad"] == genotypes.code["0044aad"]
 
 
-def test_probe_or_grow(built):
-    """What `grow` says of a genotype alone is what `probe` says."""
-    genotypes = WORLDS[-1].genotypes.set_index("name")
-    assert {name: roles.is_alone_fertile(genotypes.code[name], built) for name in PROBED} == PROBED
+def test_roles_rest_on_who_breeds_true(told, built, tmp_path, monkeypatch):
+    """The command asks of each genotype whether it breeds true. One that has daughters, none of which breeds true, is no host."""
+    monkeypatch.chdir(tmp_path)
+    table = {row["name"]: row for row in rows(told("roles", HOLD))}
+    assert (table["0080aaa"]["fate"], table["0080aaa"]["role"]) == ("true", "host")
+    assert table["0080aaa"]["said"].endswith("with default settings: breeds true; 3 of its first 3 daughters with its code")
+    assert told("roles", HOLD, "--counts").splitlines()[-1].startswith("6000,4,0,")
+    seen = roles.seen_in(WORLDS)
+    barren = FATES.assign(fate="another", fertile=False)
+    assert roles.roles(seen, barren).role["0080aaa"] in ("idle", "parasite")
 
 
-def test_roles_refuse(refused, tmp_path):
-    (tmp_path / "probe.txt").write_text("nothing\n")
-    assert "no answers of `probe`" in refused("roles", HOLD, "--probe", tmp_path / "probe.txt")
+def test_roles_refuse(refused, stand_in, tmp_path):
+    assert "is no file of assays" in refused("roles", HOLD, "--kept", HOLD)
     (tmp_path / "dump.txt").write_text("quanta 5\n")
     assert "no dump" in refused("roles", tmp_path / "dump.txt")
