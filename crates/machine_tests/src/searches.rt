@@ -416,3 +416,187 @@ fn compares_short_templates(rt: HostRuntime) -> Result<(), Fail> {
     }
     Ok(())
 }
+
+// what a search finds from cell `ip` of 200 cells, with the template 0 1 after it and the complement at `starts`
+fn find_complement(
+    alloc: Global,
+    ip: u32,
+    starts: &[u32],
+    way: Way,
+    limit: u32,
+) -> Result<(Found, u64), AllocError>
+    requires { ip < 200 }
+{
+    let mut nops = Vec::new(alloc);
+    nops.push((ip + 1, 0))?;
+    nops.push((ip + 2, 1))?;
+    for start in starts {
+        nops.push((*start, 1))?;
+        nops.push((start.wrapping_add(1) % 200, 0))?;
+    }
+    find(alloc, 200, &nops, ip, way, limit, 1)
+}
+
+// Each search has three looks at the template, and one at each candidate that does not match. From cell 100 a candidate
+// at distance d begins at 102 + d or 99 - d.
+#[test]
+fn finds_a_match_at_each_distance(rt: HostRuntime) -> Result<(), Fail> {
+    let ahead = [
+        (104, 106, 7, 6),
+        (117, 119, 33, 19),
+        (118, 120, 35, 20),
+        (119, 121, 37, 21),
+        (133, 135, 65, 35),
+        (134, 136, 67, 36),
+        (135, 137, 69, 37),
+    ];
+    let behind = [
+        (98, 100, 6, 5),
+        (84, 86, 34, 19),
+        (83, 85, 36, 20),
+        (82, 84, 38, 21),
+        (68, 70, 66, 35),
+        (67, 69, 68, 36),
+        (66, 68, 70, 37),
+    ];
+    for (way, rows) in [(Way::Forward, ahead), (Way::Backward, behind)] {
+        for (start, place, outward, one_way) in rows {
+            let both = find_complement(rt.alloc(), 100, &[start], Way::Outward, 60)?;
+            assert_eq!(rt; both, (Found::At(place), outward));
+            let one = find_complement(rt.alloc(), 100, &[start], way, 60)?;
+            assert_eq!(rt; one, (Found::At(place), one_way));
+        }
+    }
+    Ok(())
+}
+
+#[test]
+fn takes_the_nearest_of_two(rt: HostRuntime) -> Result<(), Fail> {
+    let rows = [
+        ([118, 83], Way::Outward, (Found::At(120), 35)),
+        ([133, 68], Way::Outward, (Found::At(135), 65)),
+        ([117, 83], Way::Outward, (Found::At(119), 33)),
+        ([119, 83], Way::Outward, (Found::At(85), 36)),
+        ([134, 68], Way::Outward, (Found::At(70), 66)),
+        ([119, 83], Way::Forward, (Found::At(121), 21)),
+        ([117, 83], Way::Backward, (Found::At(85), 20)),
+        ([110, 106], Way::Outward, (Found::At(108), 11)),
+        ([110, 106], Way::Forward, (Found::At(108), 8)),
+        ([90, 95], Way::Outward, (Found::At(97), 12)),
+        ([90, 95], Way::Backward, (Found::At(97), 8)),
+    ];
+    for (starts, way, want) in rows {
+        assert_eq!(rt; find_complement(rt.alloc(), 100, &starts, way, 60)?, want);
+    }
+    Ok(())
+}
+
+#[test]
+fn stops_at_its_limit(rt: HostRuntime) -> Result<(), Fail> {
+    let rows = [
+        (118, Way::Outward, 16, (Found::At(120), 35)),
+        (118, Way::Outward, 15, (Found::NoMatch, 33)),
+        (83, Way::Outward, 15, (Found::NoMatch, 33)),
+        (119, Way::Forward, 17, (Found::At(121), 21)),
+        (119, Way::Forward, 16, (Found::NoMatch, 19)),
+        (134, Way::Forward, 31, (Found::NoMatch, 34)),
+        (83, Way::Backward, 16, (Found::At(85), 20)),
+        (83, Way::Backward, 15, (Found::NoMatch, 18)),
+        (66, Way::Backward, 32, (Found::NoMatch, 35)),
+    ];
+    for (start, way, limit, want) in rows {
+        assert_eq!(rt;
+            find_complement(rt.alloc(), 100, &[start], way, limit)?,
+            want
+        );
+    }
+    Ok(())
+}
+
+// From cell 160 the candidates ahead begin at 162 + d, and from cell 20 those behind at 19 - d.
+#[test]
+fn finds_a_match_near_an_end(rt: HostRuntime) -> Result<(), Fail> {
+    let ahead = [
+        (178, 180, 35, 20),
+        (192, 194, 63, 34),
+        (193, 195, 65, 35),
+        (198, 0, 75, 40),
+        (199, 1, 77, 41),
+        (0, 2, 79, 42),
+    ];
+    let behind = [
+        (3, 5, 36, 20),
+        (2, 4, 38, 21),
+        (1, 3, 40, 22),
+        (0, 2, 42, 23),
+        (199, 1, 44, 24),
+        (198, 0, 46, 25),
+    ];
+    for (ip, way, rows) in [(160, Way::Forward, ahead), (20, Way::Backward, behind)] {
+        for (start, place, outward, one_way) in rows {
+            let both = find_complement(rt.alloc(), ip, &[start], Way::Outward, 60)?;
+            assert_eq!(rt; both, (Found::At(place), outward));
+            let one = find_complement(rt.alloc(), ip, &[start], way, 60)?;
+            assert_eq!(rt; one, (Found::At(place), one_way));
+        }
+    }
+    Ok(())
+}
+
+// A template of ten cells is the only one whose match ahead can be at distance 1.
+#[test]
+fn finds_a_match_beside_ten_nops(rt: HostRuntime) -> Result<(), Fail> {
+    let alloc = rt.alloc();
+    let ahead = &[(101, 10, 0), (111, 10, 1)];
+    let behind = &[(101, 10, 0), (90, 10, 1)];
+    let both = &[(101, 10, 0), (111, 10, 1), (90, 10, 1)];
+    for (found, want) in [
+        (
+            find_in_runs(alloc, ahead, Way::Outward, 60)?,
+            (Found::At(121), 20),
+        ),
+        (
+            find_in_runs(alloc, ahead, Way::Forward, 60)?,
+            (Found::At(121), 20),
+        ),
+        (
+            find_in_runs(alloc, behind, Way::Outward, 60)?,
+            (Found::At(100), 21),
+        ),
+        (
+            find_in_runs(alloc, behind, Way::Backward, 60)?,
+            (Found::At(100), 20),
+        ),
+        (
+            find_in_runs(alloc, both, Way::Outward, 60)?,
+            (Found::At(121), 20),
+        ),
+    ] {
+        assert_eq!(rt; found, want);
+    }
+    Ok(())
+}
+
+// a row is not known where it holds 255
+#[test]
+fn looks_where_the_row_is_not_known(rt: HostRuntime) -> Result<(), Fail> {
+    let alloc = rt.alloc();
+    let apart = &[
+        (101, 0),
+        (102, 1),
+        (108, 255),
+        (92, 255),
+        (118, 1),
+        (119, 0),
+    ];
+    let after_one = &[(101, 0), (102, 1), (104, 1), (105, 255), (118, 1), (119, 0)];
+    for (nops, way, want) in [
+        (apart, Way::Outward, (Found::At(120), 35)),
+        (apart, Way::Forward, (Found::At(120), 20)),
+        (after_one, Way::Outward, (Found::At(120), 36)),
+        (after_one, Way::Forward, (Found::At(120), 21)),
+    ] {
+        assert_eq!(rt; find(alloc, 200, nops, 100, way, 60, 1)?, want);
+    }
+    Ok(())
+}

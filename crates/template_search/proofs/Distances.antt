@@ -1,5 +1,5 @@
 -- Trying the candidates at one distance after another.
-use Rattle.std.proofs.Common.{◌≡◌, ℕ, zero, suc, ◌+◌, ◌-◌, ◌<◌, ◌≤◌, List, [], ◌∷◌, ◌++◌, refl, sym, ◌∙◌, ap, append-nil, append_assoc, arith, length}
+use Rattle.std.proofs.Common.{◌≡◌, ℕ, zero, suc, ◌+◌, ◌-◌, ◌<◌, ◌≤◌, List, [], ◌∷◌, ◌++◌, refl, sym, ◌∙◌, ap, append-nil, append_assoc, arith, length, subst}
 use Rattle.std.specs.Prelude.{Option, Some, None}
 use Rattle.tierra_model.specs.declared.searching.Way.{Way}
 use Rattle.tierra_model.specs.declared.searching.Way.TheVariants.{Backward, Forward, Outward}
@@ -7,6 +7,7 @@ use Rattle.tierra_model.specs.Look.{pass, Passes}
 use Rattle.tierra_model.specs.Search.{try_each, at_distance, candidates}
 use Rattle.template_search.specs.Sides.{on_sides}
 use Rattle.template_search.specs.Reaching.{Reaches}
+use Rattle.template_search.proofs.Reaching.{reaches_straight}
 use Rattle.template_search.proofs.Trying.{first_found, none_found}
 
 -- the candidates at the first distances, and those at the others
@@ -142,3 +143,23 @@ module _ {S : Type 0} (cells : S → ℕ → ℕ) (looked : S → ℕ → S) (n 
       (candidates n ip (length vs) way 1 (from + 1 + (to - from))) v v before
       ∙ ap (λ (l : List ℕ). pass cells looked (try_each n vs l) v) one
       ∙ last
+
+  -- and those at m distances more, where neither side goes round
+  pub straight_in_vain : (m to a b ahead behind size : ℕ) → n ≡ size → a + (to + m) ≤ n → to + m ≤ b → b < n → Reaches n ip (length vs) 1 a b
+      → ahead ≡ a + to → behind ≡ b - to → ((j : ℕ) → j < m → Passes cells looked (try_each size vs (on_sides way (ahead + j) (behind - j))) v v None)
+      → InVain 0 to → InVain 0 (to + m)
+  straight_in_vain zero to a b ahead behind size same near_a near_b within first e f none before =
+      let all : to ≡ to + 0 = omega arith in
+      subst (λ (k : ℕ). InVain 0 k) all before
+  straight_in_vain (suc m) to a b ahead behind size same near_a near_b within first e f none before =
+      let rest = straight_in_vain m to a b ahead behind size same (omega arith) (omega arith) within first e f (λ j l. none j (omega arith)) before in
+      let at_a : a + (to + m) ≡ ahead + m = omega arith in
+      let at_b : b - (to + m) ≡ behind - m = omega arith in
+      let there = reaches_straight n ip (length vs) 1 a b (to + m) (omega arith) (omega arith) within first in
+      let places : Reaches n ip (length vs) (to + m + 1) (ahead + m) (behind - m) =
+      subst (λ (p : ℕ). Reaches n ip (length vs) (to + m + 1) p (behind - m)) at_a
+      (subst (λ (p : ℕ). Reaches n ip (length vs) (to + m + 1) (a + (to + m)) p) at_b there) in
+      let last : Passes cells looked (try_each n vs (on_sides way (ahead + m) (behind - m))) v v None =
+      subst (λ (k : ℕ). Passes cells looked (try_each k vs (on_sides way (ahead + m) (behind - m))) v v None) (sym same) (none m (omega arith)) in
+      let next : to + m + 1 ≡ to + suc m = omega arith in
+      subst (λ (k : ℕ). InVain 0 k) next (one_more_in_vain 0 (to + m) (ahead + m) (behind - m) (omega arith) places last rest)

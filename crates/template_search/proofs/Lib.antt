@@ -9,6 +9,7 @@ pub mod Distances
 pub mod Searching
 pub mod Telling
 pub mod Words
+pub mod Sixteen
 pub mod Traceless
 pub mod Keeping
 pub mod Circling

@@ -108,7 +108,7 @@ with_other_nop zero h = refl
 with_other_nop (suc zero) h = refl
 with_other_nop (suc (suc k)) h = absurd (omega arith)
 
-other_nop : (v u : ℕ) → v + u ≡ 1 → u ≡ bit_xor v 1
+pub other_nop : (v u : ℕ) → v + u ≡ 1 → u ≡ bit_xor v 1
 other_nop zero u e = omega arith
 other_nop (suc k) u e =
     let none : k ≡ 0 = omega arith in

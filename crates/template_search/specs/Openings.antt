@@ -1,6 +1,6 @@
 -- The first cells of a template's complement, compared with a row of cells.
 use Rattle.std.specs.Prelude.{List, [], bit_xor, get_or, if◌then◌else◌, length, min, nat_lt, slice_index, ℕ, ◌+◌, ◌<◌}
-use Rattle.std.specs.Prelude.{◌≡◌, ◌∷◌}
+use Rattle.std.specs.Prelude.{◌≡◌, ◌∷◌, ◌^◌}
 use Rattle.std.specs.Int.{from_le_bytes, w64}
 use Rattle.template_search.specs.declared.opening.Opening.{Opening}
 
@@ -30,3 +30,12 @@ Agrees vs row place = (j : ℕ) → j < min 8 (length vs) → get_or vs j 0 + sl
 pub record Differs (vs row : List ℕ) (place : ℕ) : Type 0 where
   pub known : (j : ℕ) → j < min 8 (length vs) → slice_index row (place + j) < 32
   pub other : Agrees vs row place → ⊥
+
+-- Lane j of xs tells of the candidate j cells after place, by the first m cells of the template or as many as it has: it
+-- is below 32 only if the cells compared are all known, and 0 if they are the complement.
+pub record AreUnlike (vs row : List ℕ) (place m : ℕ) (xs : List ℕ) : Type 0 where
+  pub long : length xs ≡ 16
+  pub small : (j : ℕ) → j < 16 → get_or xs j 0 < 2 ^ 8
+  pub known : (j : ℕ) → j < 16 → get_or xs j 0 < 32 → (i : ℕ) → i < min m (length vs) → slice_index row (place + j + i) < 32
+  pub alike : (j : ℕ) → j < 16 → ((i : ℕ) → i < min m (length vs) → get_or vs i 0 + slice_index row (place + j + i) ≡ 1)
+      → get_or xs j 0 ≡ 0

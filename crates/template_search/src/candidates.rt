@@ -1,11 +1,13 @@
 //! The candidates at one distance.
 
-ghost use Rattle.std.specs.Prelude.{◌≡◌, ◌<◌, ◌≤◌, ◌+◌, IfSome, None, Some, [], ◌∷◌, true};
+ghost use Rattle.std.specs.Prelude.{◌≡◌, ◌<◌, ◌≤◌, ◌+◌, ◌-◌, ℕ, IfSome, None, Some, [], ◌∷◌};
+ghost use Rattle.std.specs.Prelude.{length, slice_index, true};
 ghost use Rattle.tierra_model.specs.Look.{Passes};
 ghost use Rattle.tierra_model.specs.Search.{try_each};
 ghost use Rattle.template_search.specs.Sides.{on_sides};
 ghost use Rattle.template_search.specs.Openings.{IsOpening};
 
+use crate::lanes::{ruled_out_ahead, ruled_out_behind};
 use crate::opening::Opening;
 use crate::template::is_complement;
 use tierra_model::{View, Way};
@@ -42,6 +44,30 @@ pub fn differ<V: View>(view: &V, nops: &[u8], course: Course, opening: Opening, 
             Way::Backward => opening.differs(row, pair.behind),
         },
         None => false,
+    }
+}
+
+/// How many distances, of sixteen from this one on, come before the first whose candidates the row does not rule out.
+#[inline(always)]
+pub fn ruled_out<V: View>(view: &V, nops: &[u8], course: Course, pair: Pair) -> u32
+    requires nops { (j : ℕ) → j < length nops.now → slice_index nops.now j < 2 }
+    requires ahead { pair.ahead + 23 ≤ V.size view.now }
+    requires begin { 15 ≤ pair.behind }
+    requires behind { pair.behind + 8 ≤ V.size view.now }
+    ensures at_most { result ≤ 16 }
+    ensures none { (j : ℕ) → j < result → Passes V.cells V.looked (try_each (V.size view.now) nops.now
+        (on_sides course.way (pair.ahead + j) (pair.behind - j))) view.now view.now None }
+{
+    match view.row() {
+        Some(row) => match course.way {
+            Way::Outward => {
+                let ahead = ruled_out_ahead(nops, row, pair.ahead);
+                ahead.min(ruled_out_behind(nops, row, pair.behind))
+            }
+            Way::Forward => ruled_out_ahead(nops, row, pair.ahead),
+            Way::Backward => ruled_out_behind(nops, row, pair.behind),
+        },
+        None => 0,
     }
 }
 

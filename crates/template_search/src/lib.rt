@@ -6,6 +6,7 @@
 
 mod candidates;
 mod known;
+mod lanes;
 mod nearest;
 mod opening;
 mod places;

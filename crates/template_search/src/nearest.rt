@@ -8,8 +8,9 @@ ghost use Rattle.template_search.specs.Circle.{NoneInCircle};
 ghost use Rattle.template_search.specs.Openings.{IsOpening};
 ghost use Rattle.template_search.specs.Reaching.{Reaches};
 
-use crate::candidates::{Course, Pair, differ, match_near};
+use crate::candidates::{Course, Pair, differ, match_near, ruled_out};
 use crate::known::is_known;
+use crate::lanes::LANES;
 use crate::opening::Opening;
 use crate::places::{next_place, place_at, previous_place};
 use tierra_model::{View, Way};
@@ -187,21 +188,12 @@ fn nearest_straight<V: View>(
     ensures below { IfSome result (λ p. p < course.size) }
     ensures same { V.size view.new ≡ course.size }
 {
-    let mut near = 0;
+    let mut near = first_likely(view, nops, opening, course, first, straight);
     while near < straight {
-        near = next_likely(view, nops, opening, course, first, near, straight);
-        if near < straight {
-            if let Some(start) = match_near(
-                view,
-                nops,
-                course,
-                Some(opening),
-                pair_at(first, near),
-            ) {
-                return Some(start);
-            }
-            near += 1;
+        if let Some(start) = match_near(view, nops, course, Some(opening), pair_at(first, near)) {
+            return Some(start);
         }
+        near = next_likely(view, nops, opening, course, first, near + 1, straight);
     }
     None
 }
@@ -220,8 +212,40 @@ fn pair_at(first: Pair, further: u32) -> Pair
     }
 }
 
-// How many distances are tried, from `near` on, until the row rules the candidates at the next one out no longer; at
-// most up to `straight`. (Alone, the loop keeps its values in registers.)
+// How many distances come before the first, up to `straight`, whose candidates the row does not rule out. They are tried
+// sixteen at once, and the last ones one by one.
+#[inline(always)]
+fn first_likely<V: View>(
+    view: &V,
+    nops: &[u8],
+    opening: Opening,
+    course: Course,
+    first: Pair,
+    straight: u32,
+) -> u32
+    requires opening { IsOpening nops.now opening }
+    requires size { course.size ≡ V.size view.now }
+    requires behind { first.behind < course.size }
+    requires places { Reaches course.size course.ip (length nops.now) 1 first.ahead first.behind }
+    requires within { straight ≤ first.behind }
+    requires near_ahead { 0 < straight → first.ahead + straight + 7 ≤ course.size }
+    requires near_behind { 0 < straight → first.behind + 8 ≤ course.size }
+    ensures up_to { result ≤ straight }
+    ensures none { Passes V.cells V.looked (try_each course.size nops.now
+        (candidates course.size course.ip (length nops.now) course.way result 1)) view.now view.now None }
+{
+    let mut near = 0;
+    while straight - near >= LANES {
+        let further = ruled_out(view, nops, course, pair_at(first, near));
+        near += further;
+        if further < LANES {
+            return near;
+        }
+    }
+    next_likely(view, nops, opening, course, first, near, straight)
+}
+
+// The same where `near` distances were tried, one by one. (Alone, the loop keeps its values in registers.)
 #[inline(never)]
 fn next_likely<V: View>(
     view: &V,
@@ -236,10 +260,10 @@ fn next_likely<V: View>(
     requires size { course.size ≡ V.size view.now }
     requires behind { first.behind < course.size }
     requires places { Reaches course.size course.ip (length nops.now) 1 first.ahead first.behind }
-    requires near { near < straight }
+    requires near { near ≤ straight }
     requires within { straight ≤ first.behind }
-    requires near_ahead { first.ahead + straight + 7 ≤ course.size }
-    requires near_behind { first.behind + 8 ≤ course.size }
+    requires near_ahead { 0 < straight → first.ahead + straight + 7 ≤ course.size }
+    requires near_behind { 0 < straight → first.behind + 8 ≤ course.size }
     ensures from { near ≤ result }
     ensures up_to { result ≤ straight }
     ensures none { Passes V.cells V.looked (try_each course.size nops.now
