@@ -9,7 +9,7 @@ use std::sync::Arc;
 use tierra_model::OutOfMemory;
 
 /// How many cells a page has. The last of a soup may have fewer.
-pub const PAGE: u32 = 16384;
+pub const PAGE: u32 = 4096;
 
 /// `PAGE` as an index.
 pub(crate) const PAGE_LEN: usize = PAGE as usize;

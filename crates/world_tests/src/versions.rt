@@ -9,16 +9,21 @@ use tierra_model::OutOfMemory;
 
 const VERSIONS: u32 = 12_000;
 
-// Makes the last cell of the first page and the first cell of the second ready, and then sets them.
+// the last cell of the first page and the first of the second
+const LAST: u32 = 4095;
+
+const FIRST: u32 = 4096;
+
+// Makes both cells at the edge of a page ready, and then sets them.
 fn set_both(soup: &mut Soup, last: u8, first: u8) -> Result<(), OutOfMemory>
     requires last { last < 32 }
     requires first { first < 32 }
 {
-    if soup.row().len() > PAGE as usize {
-        soup.ready(PAGE - 1)?;
-        soup.ready(PAGE)?;
-        soup.set(PAGE - 1, last);
-        soup.set(PAGE, first);
+    if soup.row().len() > FIRST as usize {
+        soup.ready(LAST)?;
+        soup.ready(FIRST)?;
+        soup.set(LAST, last);
+        soup.set(FIRST, first);
     }
     Ok(())
 }
@@ -36,8 +41,8 @@ fn set_cell(soup: &mut Soup, at: u32, value: u8) -> Result<(), OutOfMemory>
 
 // Those two cells of a soup.
 fn both_now(soup: &Soup) -> Option<(u8, u8)> {
-    if soup.row().len() > PAGE as usize {
-        Some((soup.get(PAGE - 1), soup.get(PAGE)))
+    if soup.row().len() > FIRST as usize {
+        Some((soup.get(LAST), soup.get(FIRST)))
     } else {
         None
     }
@@ -45,8 +50,8 @@ fn both_now(soup: &Soup) -> Option<(u8, u8)> {
 
 // And of a version.
 fn both_in(version: &Version) -> Option<(u8, u8)> {
-    if PAGE < version.size() {
-        Some((version.get(PAGE - 1), version.get(PAGE)))
+    if FIRST < version.size() {
+        Some((version.get(LAST), version.get(FIRST)))
     } else {
         None
     }
@@ -68,15 +73,15 @@ fn pages_of(version: &Version) -> Option<(u32, u8, usize)> {
 
 #[test]
 fn a_version_keeps_its_cells(rt: HostRuntime) -> Result<(), Fail> {
-    let mut soup = Soup::new(rt.alloc(), 40_000)?;
+    let mut soup = Soup::new(rt.alloc(), 10_000)?;
     let first = soup.version()?;
     set_both(&mut soup, 7, 9)?;
     let second = for_threads(soup.version()?);
-    set_cell(&mut soup, PAGE - 1, 3)?;
+    set_cell(&mut soup, LAST, 3)?;
     let cells = [both_in(&first), both_in(&second), both_now(&soup)];
     assert_eq!(rt;
         (cells, pages_of(&second)),
-        ([(0, 0), (7, 9), (3, 9)].map(Some), Some((40_000, 7, 7232)))
+        ([(0, 0), (7, 9), (3, 9)].map(Some), Some((10_000, 7, 1808)))
     );
     Ok(())
 }
