@@ -251,6 +251,16 @@ fn a_run_makes_its_bank(rt: HostRuntime) -> Result<(), Fail> {
     Ok(())
 }
 
+#[test]
+fn a_run_makes_its_bank_in_a_file_of_zeros(rt: HostRuntime) -> Result<(), Fail> {
+    let ended = call_over(&rt, rt.alloc(), "grow --quanta 34", ANCESTOR, &[0; 45])?;
+    // Seven disk calls attach the file, and four append the group.
+    let is_told = is_end(&ended, &Status::Done, GROWN, "SLRWSWSWSWSTT");
+    let is_made = is_bank(&ended.file(0)?, Known::One);
+    assert_eq!(rt; (is_told, is_made), (true, true));
+    Ok(())
+}
+
 /// Whether a call is done with a text that has these lines in it.
 fn has_lines(ended: &Ended, lines: &str) -> Result<bool, Fail> {
     Ok(ended.status == Status::Done && str::from_utf8(&ended.told)?.contains(lines))
@@ -495,6 +505,32 @@ fn a_stop_at_each_call_leaves_a_true_bank(rt: HostRuntime) -> Result<(), Fail> {
         let lines = stop.saturating_sub(9) / 5;
         let seen = stopped_at(&rt, alloc, &three, stop, &want, lines)?;
         assert_eq!(rt; seen, [true; 4], "stop {stop}");
+    }
+    Ok(())
+}
+
+/// How many reads of the source there are in the run of the three ancestors whose desk calls fail from one on.
+fn reads_till<R: Threads + Wait + Sync>(
+    rt: &R,
+    alloc: Global,
+    three: &str,
+    stop: u64,
+) -> Result<u64, OutOfMemory> {
+    let given = Given {
+        stop: Some(stop),
+        ..PLAIN
+    };
+    let ended = call_with(rt, alloc, RUN_OF_THREE, three.as_bytes(), &given)?;
+    Ok(ended.reads)
+}
+
+#[test]
+fn the_source_is_not_read_after_a_fault_of_the_desk(rt: HostRuntime) -> Result<(), Fail> {
+    let alloc = rt.alloc();
+    let three = three_ancestors(alloc)?;
+    for stop in 1..=24u64 {
+        // One read gives the whole source, and one finds its end.
+        assert_eq!(rt; reads_till(&rt, alloc, &three, stop)?, 2, "stop {stop}");
     }
     Ok(())
 }

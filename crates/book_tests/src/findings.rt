@@ -391,6 +391,34 @@ fn is_found(alloc: Global, row: &Row) -> Result<[bool; 3], Fail> {
     ])
 }
 
+/// Whether a copy of what the row's job read has the cells and the lists that the row tells.
+fn are_copied(alloc: Global, row: &Row) -> Result<[bool; 3], Fail> {
+    let Some(job) = first_job(alloc, row.file, row.quantum)? else {
+        return Err(Fail::from("no job of this quantum"));
+    };
+    let finding = finding_of::<Brand>(alloc, &job, Blank::new(1))?;
+    let copy = finding.reads().copy()?;
+    Ok([
+        are_cells(&copy, row.cells),
+        is_free(&copy, row.free),
+        is_yard(&copy, row.yard),
+    ])
+}
+
+#[test]
+fn reads_are_copied(rt: HostRuntime) -> Result<(), Fail> {
+    for row in rows() {
+        let copied = are_copied(rt.alloc(), &row)?;
+        assert_eq!(rt;
+            copied,
+            [true; 3],
+            "quantum {} of {}",
+            row.quantum, row.file
+        );
+    }
+    Ok(())
+}
+
 #[test]
 fn quanta_find_what_they_read_and_do(rt: HostRuntime) -> Result<(), Fail> {
     for row in rows() {

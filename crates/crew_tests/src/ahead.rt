@@ -2,7 +2,7 @@
 
 ghost use Rattle.std.specs.Prelude.{◌≤◌};
 
-use crate::gates::{BarrierGate, CountGate, PlanGate, Until};
+use crate::gates::{BarrierGate, CountGate, HoldGate, PlanGate, Until};
 use crate::hands::{LOOPS, history_of};
 use crew::{number_of_drawers, takes_jobs};
 use std::alloc::Global;
@@ -34,6 +34,31 @@ fn a_kept_finding_is_compared_in_its_turn(rt: HostRuntime) -> Result<(), Fail> {
         let want = [(other, How::Missing), (other, how)];
         assert_eq!(rt; lines.as_slice(), want.as_slice(), "{file}");
     }
+    Ok(())
+}
+
+// Three workers, window 6: the first job is held until what another worker found was offered.
+#[test]
+fn the_first_job_waits_for_another_workers_offer(rt: HostRuntime) -> Result<(), Fail> {
+    let gate = HoldGate::new();
+    let lines = history_of(&rt, rt.alloc(), TWO, 200, 3, &gate)?;
+    assert_eq!(rt;
+        (lines.len(), gate.is_limit_met(), gate.is_ended_by_another()),
+        (200, false, true)
+    );
+    Ok(())
+}
+
+// One worker, window 2.
+#[test]
+fn one_worker_commits_each_quantum_by_its_own_job(rt: HostRuntime) -> Result<(), Fail> {
+    let gate = CountGate::new();
+    let lines = history_of(&rt, rt.alloc(), TWO, 200, 1, &gate)?;
+    let fresh = lines
+        .iter()
+        .filter(|line| **line == (1, How::Fresh))
+        .count();
+    assert_eq!(rt; (gate.calls(), lines.len(), fresh), ([200, 200], 200, 200));
     Ok(())
 }
 
@@ -73,9 +98,33 @@ const THREE_IN_ORDER: &[(u64, Until)] = &[
     (6, Until::After(3)),
 ];
 
+const EIGHT_IN_ORDER: &[(u64, Until)] = &[
+    (1, Until::Before(8)),
+    (2, Until::After(1)),
+    (3, Until::After(2)),
+    (4, Until::After(3)),
+    (5, Until::After(4)),
+    (6, Until::After(5)),
+    (7, Until::After(6)),
+    (8, Until::After(7)),
+    (9, Until::After(8)),
+    (10, Until::After(8)),
+    (11, Until::After(8)),
+    (12, Until::After(8)),
+    (13, Until::After(8)),
+    (14, Until::After(8)),
+    (15, Until::After(8)),
+    (16, Until::After(8)),
+];
+
 #[test]
 fn each_worker_commits_what_it_found(rt: HostRuntime) -> Result<(), Fail> {
-    for (workers, quanta, plan) in [(2u32, 4u64, TWO_IN_ORDER), (3, 6, THREE_IN_ORDER)] {
+    let rows = [
+        (2u32, 4u64, TWO_IN_ORDER),
+        (3, 6, THREE_IN_ORDER),
+        (8, 16, EIGHT_IN_ORDER),
+    ];
+    for (workers, quanta, plan) in rows {
         let gate = PlanGate::new(plan);
         let lines = history_of(&rt, rt.alloc(), LOOPS, quanta, workers, &gate)?;
         assert!(rt; !gate.is_limit_met(), "{workers} workers");

@@ -39,14 +39,17 @@ pub(crate) enum Until {
     Yields(u32),
 }
 
-/// Holds the workers of some jobs. It notes the calls for the quanta below 8.
+/// The quanta below which a `PlanGate` notes the calls.
+const NOTED: usize = 17;
+
+/// Holds the workers of some jobs. It notes the calls for the first quanta.
 #[derive(Drop)]
 pub(crate) struct PlanGate {
     // The quanta whose workers are held.
     plan: &'static [(u64, Until)],
     // The workers that called, by quantum; 0 stands for nobody.
-    befores: [AtomicU64; 8],
-    afters: [AtomicU64; 8],
+    befores: [AtomicU64; NOTED],
+    afters: [AtomicU64; NOTED],
     is_limit_met: AtomicBool,
 }
 
@@ -167,6 +170,67 @@ impl Gate for BarrierGate {
             if quantum > self.from {
                 calls.fetch_add(1, Ordering::SeqCst);
             }
+        }
+    }
+}
+
+/// Holds the worker of the run's first `before` until another worker calls `after`.
+#[derive(Drop)]
+pub(crate) struct HoldGate {
+    // The worker that came first, or 0 as long as none came.
+    held: AtomicU64,
+    // How often that worker called `before`.
+    befores: AtomicU64,
+    // How often another worker called `after`.
+    afters_of_others: AtomicU64,
+    is_limit_met: AtomicBool,
+    is_ended_by_another: AtomicBool,
+}
+
+impl HoldGate {
+    pub(crate) fn new() -> HoldGate {
+        HoldGate {
+            held: AtomicU64::new(0),
+            befores: AtomicU64::new(0),
+            afters_of_others: AtomicU64::new(0),
+            is_limit_met: AtomicBool::new(false),
+            is_ended_by_another: AtomicBool::new(false),
+        }
+    }
+
+    /// Whether no other worker called `after` in time.
+    pub(crate) fn is_limit_met(&self) -> bool {
+        self.is_limit_met.load(Ordering::SeqCst)
+    }
+
+    /// Whether the hold was ended by another worker's `after`.
+    pub(crate) fn is_ended_by_another(&self) -> bool {
+        self.is_ended_by_another.load(Ordering::SeqCst)
+    }
+
+    // Whether it is the first `before` of the worker that is to be held.
+    fn is_to_hold(&self, worker: u32) -> bool {
+        let (by, order) = (u64::from(worker), Ordering::SeqCst);
+        let is_first = self.held.compare_exchange(0, by, order, order).is_ok();
+        (is_first || self.held.load(order) == by) && self.befores.fetch_add(1, order) == 0
+    }
+}
+
+impl Gate for HoldGate {
+    fn before(&self, worker: u32, _quantum: u64) {
+        if !self.is_to_hold(worker) {
+            return;
+        }
+        if is_reached(&self.afters_of_others, 1) {
+            self.is_ended_by_another.store(true, Ordering::SeqCst);
+        } else {
+            self.is_limit_met.store(true, Ordering::SeqCst);
+        }
+    }
+
+    fn after(&self, worker: u32, _quantum: u64) {
+        if self.held.load(Ordering::SeqCst) != u64::from(worker) {
+            self.afters_of_others.fetch_add(1, Ordering::SeqCst);
         }
     }
 }

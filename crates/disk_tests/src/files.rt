@@ -5,8 +5,9 @@ ghost use Rattle.std.specs.Prelude.{refl};
 use crate::sources::drain;
 use desk_io::{Desk, Piece};
 use file_desk::{FileDesk, InputSource, SteadyRead, SteadyWrite};
-use std::alloc::Global;
+use std::alloc::{AllocError, Global};
 use std::io::{Error, ErrorKind, Read, Write};
+use std::os::unix::fs::symlink;
 use std::test::Fail;
 use std::{fs, io};
 
@@ -142,6 +143,61 @@ fn a_file_has_what_was_written(rt: HostRuntime) -> Result<(), Fail> {
     let _ = fs::remove_file(&rt, BANK);
     assert_eq!(rt; written(&rt)?, (0, (5, *b"ank!", true)));
     fs::remove_file(&rt, BANK)?;
+    Ok(())
+}
+
+// A byte for each place, none like its neighbours.
+fn pattern(alloc: Global, len: u32) -> Result<Vec<u8>, AllocError> {
+    let mut bytes = Vec::new(alloc);
+    for at in 0..len {
+        bytes.push((at % 251) as u8)?;
+    }
+    Ok(bytes)
+}
+
+// Writes these bytes in a run, and a byte behind them in another, which opens the file anew. Gives whether a third run
+// reads the bytes as they were, and the length that it is told.
+fn written_on(rt: &HostRuntime, bytes: &[u8]) -> Result<(bool, u64), Fail> {
+    let mut first = FileDesk::new(rt, BANK, Vec::new(rt.alloc()));
+    first.write_at(0, bytes)?;
+    first.sync()?;
+    drop(first);
+    let mut second = FileDesk::new(rt, BANK, Vec::new(rt.alloc()));
+    second.sync()?;
+    second.write_at(bytes.len() as u64, b"!")?;
+    drop(second);
+    let mut third = FileDesk::new(rt, BANK, Vec::new(rt.alloc()));
+    let len = third.len()?;
+    let mut buf = vec![in rt.alloc(); 0; bytes.len()]?;
+    third.read_at(0, &mut buf)?;
+    Ok((buf.as_slice() == bytes, len))
+}
+
+#[test]
+fn a_run_keeps_what_an_earlier_one_wrote(rt: HostRuntime) -> Result<(), Fail> {
+    let _ = fs::remove_file(&rt, BANK);
+    let bytes = pattern(rt.alloc(), 100_000)?;
+    assert_eq!(rt; written_on(&rt, bytes.as_slice())?, (true, 100_001));
+    fs::remove_file(&rt, BANK)?;
+    Ok(())
+}
+
+// Whether a look at the file, a write and a sync fail.
+fn fail_at(rt: &HostRuntime) -> [bool; 3] {
+    let looked = FileDesk::new(rt, BANK, Vec::new(rt.alloc())).len();
+    let written = FileDesk::new(rt, BANK, Vec::new(rt.alloc())).write_at(0, b"bank");
+    let synced = FileDesk::new(rt, BANK, Vec::new(rt.alloc())).sync();
+    [looked.is_err(), written.is_err(), synced.is_err()]
+}
+
+// The name leads to itself, so nothing can be opened. That is no missing file.
+#[test]
+fn a_file_that_cannot_be_opened_is_not_missing(rt: HostRuntime) -> Result<(), Fail> {
+    let _ = fs::remove_file(&rt, BANK);
+    symlink(&rt, BANK, BANK)?;
+    let failed = fail_at(&rt);
+    fs::remove_file(&rt, BANK)?;
+    assert_eq!(rt; failed, [true, true, true]);
     Ok(())
 }
 

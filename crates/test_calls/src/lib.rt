@@ -48,6 +48,8 @@ pub struct Ended {
     pub told: Vec<u8>,
     /// A letter for each call of the desk: for the length, a read, a write, a sync and a tell.
     pub calls: String,
+    /// How many reads of the source there were.
+    pub reads: u64,
     desk: MemDesk,
 }
 
@@ -110,7 +112,12 @@ fn answer_of<R: Threads + Wait + Sync, G: Gate + Sync>(
     tierra(rt, alloc, words, source, desk, gate)
 }
 
-fn what_ended(alloc: Global, status: Status, desk: MemDesk) -> Result<Ended, OutOfMemory> {
+fn what_ended(
+    alloc: Global,
+    status: Status,
+    reads: u64,
+    desk: MemDesk,
+) -> Result<Ended, OutOfMemory> {
     if desk.starved() > 0 {
         return Err(AllocError);
     }
@@ -120,6 +127,7 @@ fn what_ended(alloc: Global, status: Status, desk: MemDesk) -> Result<Ended, Out
         status,
         told,
         calls,
+        reads,
         desk,
     })
 }
@@ -137,7 +145,7 @@ pub fn call_beside<R: Threads + Wait + Sync, G: Gate + Sync>(
     let mut source = source_of(alloc, source, given)?;
     let mut desk = desk_of(alloc, given)?;
     let status = answer_of(rt, alloc, &words, &mut source, &mut desk, gate);
-    what_ended(alloc, status, desk)
+    what_ended(alloc, status, source.calls(), desk)
 }
 
 /// Makes a call.

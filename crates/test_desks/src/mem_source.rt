@@ -52,6 +52,13 @@ impl MemSource {
             faults: 0,
         }
     }
+
+    /// How many reads there were.
+    pub fn calls(&self) -> u64
+        ensures { result ≡ self.now.calls }
+    {
+        self.calls
+    }
 }
 
 impl Source for MemSource {

@@ -29,7 +29,7 @@ struct Barrier {
     workers: u64,
     came: AtomicU64,
     // The calls of `before`, by worker.
-    befores: [AtomicU64; 4],
+    befores: [AtomicU64; 9],
     afters: AtomicU64,
     is_limit_met: AtomicBool,
 }
@@ -50,10 +50,12 @@ impl Barrier {
         self.is_limit_met.load(Ordering::SeqCst)
     }
 
-    /// Which workers came.
-    fn came(&self) -> [bool; 4] {
-        let befores = self.befores.each_ref();
-        befores.map(|calls| calls.load(Ordering::SeqCst) > 0)
+    /// How many workers came.
+    fn came(&self) -> usize {
+        let befores = self.befores.iter();
+        befores
+            .filter(|calls| calls.load(Ordering::SeqCst) > 0)
+            .count()
     }
 
     /// The calls of `before` by worker 1, and those of `after`.
@@ -98,15 +100,19 @@ fn run_gated<R: Threads + Wait + Sync, G: Gate + Sync>(
 
 #[test]
 fn each_worker_has_a_job_before_any_is_run(rt: HostRuntime) -> Result<(), Fail> {
-    for words in [
-        "run --quanta 200 --workers 3",
-        "watch --quanta 200 --workers 3",
-    ] {
-        let gate = Barrier::new(3);
-        let status = run_gated(&rt, rt.alloc(), words, TWO, &[], &gate)?;
+    let rows = [
+        ("run --quanta 200 --workers 3", TWO, 3),
+        ("watch --quanta 200 --workers 3", TWO, 3),
+        ("run --quanta 200 --workers 8", TWO, 8),
+        ("watch --quanta 200 --workers 8", TWO, 8),
+        ("grow --quanta 200 --workers 8", ANCESTOR, 8),
+    ];
+    for (words, source, workers) in rows {
+        let gate = Barrier::new(workers);
+        let status = run_gated(&rt, rt.alloc(), words, source, &[], &gate)?;
         assert_eq!(rt;
-            (status, gate.is_limit_met(), gate.came()),
-            (Status::Done, false, [false, true, true, true]),
+            (status, gate.is_limit_met(), gate.came() as u64),
+            (Status::Done, false, workers),
             "{words}"
         );
     }
@@ -124,6 +130,104 @@ fn one_worker_has_a_job_for_each_quantum(rt: HostRuntime) -> Result<(), Fail> {
             "{words}"
         );
     }
+    Ok(())
+}
+
+/// Holds the worker of the run's first `before`, or of one worker's, until another worker calls `after`.
+#[derive(Drop)]
+struct HoldGate {
+    // The worker that is held, or 0 as long as none is.
+    held: AtomicU64,
+    // How often that worker called `before`.
+    befores: AtomicU64,
+    // How often another worker called `after`.
+    afters_of_others: AtomicU64,
+    is_limit_met: AtomicBool,
+    is_ended_by_another: AtomicBool,
+}
+
+impl HoldGate {
+    /// Holds the worker that comes first.
+    fn first() -> HoldGate {
+        HoldGate::of(0)
+    }
+
+    fn of(worker: u32) -> HoldGate {
+        HoldGate {
+            held: AtomicU64::new(u64::from(worker)),
+            befores: AtomicU64::new(0),
+            afters_of_others: AtomicU64::new(0),
+            is_limit_met: AtomicBool::new(false),
+            is_ended_by_another: AtomicBool::new(false),
+        }
+    }
+
+    /// Whether no other worker called `after` in time.
+    fn is_limit_met(&self) -> bool {
+        self.is_limit_met.load(Ordering::SeqCst)
+    }
+
+    /// Whether the hold was ended by another worker's `after`.
+    fn is_ended_by_another(&self) -> bool {
+        self.is_ended_by_another.load(Ordering::SeqCst)
+    }
+
+    // Whether it is the first `before` of the worker that is to be held.
+    fn is_to_hold(&self, worker: u32) -> bool {
+        let (by, order) = (u64::from(worker), Ordering::SeqCst);
+        let is_first = self.held.compare_exchange(0, by, order, order).is_ok();
+        (is_first || self.held.load(order) == by) && self.befores.fetch_add(1, order) == 0
+    }
+}
+
+impl Gate for HoldGate {
+    fn before(&self, worker: u32, _quantum: u64) {
+        if !self.is_to_hold(worker) {
+            return;
+        }
+        if is_reached(&self.afters_of_others, 1) {
+            self.is_ended_by_another.store(true, Ordering::SeqCst);
+        } else {
+            self.is_limit_met.store(true, Ordering::SeqCst);
+        }
+    }
+
+    fn after(&self, worker: u32, _quantum: u64) {
+        if self.held.load(Ordering::SeqCst) != u64::from(worker) {
+            self.afters_of_others.fetch_add(1, Ordering::SeqCst);
+        }
+    }
+}
+
+// Three workers, of whom the first is held until what another found was offered.
+#[test]
+fn a_hold_ends_by_another_worker(rt: HostRuntime) -> Result<(), Fail> {
+    let gate = HoldGate::first();
+    let status = run_gated(
+        &rt,
+        rt.alloc(),
+        "run --quanta 200 --workers 3",
+        TWO,
+        &[],
+        &gate,
+    )?;
+    assert_eq!(rt;
+        (status, gate.is_limit_met(), gate.is_ended_by_another()),
+        (Status::Done, false, true)
+    );
+    Ok(())
+}
+
+// Worker 1 of a watched run is held until an offer of worker 2 was answered.
+#[test]
+fn a_watched_run_goes_on_beside_a_held_worker(rt: HostRuntime) -> Result<(), Fail> {
+    let gate = HoldGate::of(1);
+    let words = "watch --quanta 200 --workers 2 --looks 20";
+    let status = run_gated(&rt, rt.alloc(), words, TWO, &[], &gate)?;
+    assert_eq!(rt;
+        (status, gate.is_limit_met(), gate.is_ended_by_another()),
+        (Status::Done, false, true)
+    );
     Ok(())
 }
 
