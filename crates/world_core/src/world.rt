@@ -1,23 +1,29 @@
 //! The world between two quanta.
 
 ghost use Rattle.std.specs.Prelude.{◌≡◌, ◌==◌, ◌<◌, ℕ, IfOk, OnOk, find, length, option_copied, option_map, slice_get};
+ghost use Rattle.tierra_model.specs.FreeList.{free_list};
 ghost use Rattle.tierra_model.specs.Living.{one_of};
 ghost use Rattle.tierra_model.specs.Room.{filled, is_owned};
 ghost use Rattle.tierra_model.specs.Serial.{empty_world, start, with_inocula};
 ghost use Rattle.tierra_model.specs.Setups.{IsSetup};
 ghost use Rattle.tierra_model.specs.Sound.{IsSound};
 ghost use Rattle.tierra_model.specs.World.{genotype_at};
+ghost use Rattle.tierra_model.specs.Yard.{yard};
 ghost use Rattle.census.specs.Census.{living_of};
+ghost use Rattle.world_core.specs.Population.{entries_of};
 ghost use Rattle.world_core.specs.Running.{number_with};
 
 use crate::running::Running;
+use block_alloc::Blocks;
 use census::Census;
 use genotyper::Genotypes;
+use reaper_queue::Reaper;
 use soup_cells::Version;
 use std::alloc::Global;
 use std::marker::Model;
 use tierra_model::{
     Block, Code, Creature, Effort, Inoculum, Now, OutOfMemory, SeedList, Settings, Setup, Standing,
+    Yard,
 };
 use world_state::copied;
 
@@ -120,6 +126,33 @@ impl World {
         ensures { result ≡ filled self.now.world.settings.soup_size (λ p. is_owned self.now.world.living p) }
     {
         self.running.filled()
+    }
+
+    /// The cells, each free or owned by one of the living.
+    pub fn blocks(&self) -> &Blocks
+        ensures size { result.now.size ≡ self.now.world.settings.soup_size }
+        ensures free { result.now.free ≡ free_list self.now.world }
+        ensures spare { result.now.spare ≡ self.now.blocks }
+    {
+        self.running.blocks()
+    }
+
+    /// The reaper queue: the living by birth number, each with its errors.
+    pub fn reaper(&self) -> &Reaper
+        ensures { result.now.entries ≡ entries_of self.now.world.living self.now.world.reaper }
+    {
+        self.running.reaper()
+    }
+
+    /// What the reaper queue shows of each creature, from the top on.
+    pub fn yard(&self, alloc: Global) -> Result<Yard, OutOfMemory>
+        ensures { IfOk result (λ y. y ≡ yard self.now.world) }
+    {
+        let mut items = Vec::with_capacity(alloc, self.yard_len() as usize)?;
+        for place in 0..self.yard_len() {
+            items.push(self.standing(place))?;
+        }
+        Ok(Yard { items })
     }
 
     /// The genotypes in the order of first birth.
