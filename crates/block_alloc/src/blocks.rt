@@ -1,10 +1,11 @@
 //! The block allocator.
 
-ghost use Rattle.std.specs.Prelude.{◌≡◌, ◌+◌, ◌<◌, ◌≤◌, ◌&&◌, ◌||◌, [], ℕ, IfOk, OnOk, OnErr, Some, false, find, length, nat_le, not, option_map, slice_get, true};
+ghost use Rattle.std.specs.Prelude.{◌≡◌, ◌↔◌, ◌+◌, ◌<◌, ◌≤◌, ◌&&◌, ◌||◌, [], ℕ, IfOk, IsTrue, OnOk, OnErr, Some, false, find, length, nat_le, not, option_map, slice_get, true};
 ghost use Rattle.tierra_model.specs.Blocks.{is_in};
 ghost use Rattle.tierra_model.specs.FreeList.{is_in_some, runs_of};
 ghost use Rattle.tierra_model.specs.Room as room;
 ghost use Rattle.block_alloc.specs.Runs.{AllBelow, AreRuns, cells_of};
+ghost use Rattle.block_alloc.specs.Again.{tells};
 
 use crate::runs::{put_in, take_out};
 use std::alloc::Global;
@@ -98,6 +99,21 @@ impl Blocks {
         ensures { result ≡ room.first_fit self.now.size (λ p. not (is_in_some self.now.free p)) size }
     {
         first_long(&self.free, size)
+    }
+
+    /// Whether a block that is given back would be the first fit of its size again: no free run before it is as long,
+    /// and none ends where it begins.
+    pub fn fits_again(&self, block: Block) -> bool
+        requires some { 1 ≤ block.size }
+        requires within { AllBelow self.now.size block }
+        requires owned { (p : ℕ) → is_in block p ≡ true → is_in_some self.now.free p ≡ false }
+        ensures { IsTrue result ↔ (room.first_fit self.now.size
+            (λ p. not (is_in_some self.now.free p || is_in block p)) block.size ≡ Some block.at) }
+    {
+        match first_told(&self.free, block) {
+            Some(run) => block.at <= run.at,
+            None => true,
+        }
     }
 
     /// Makes room for `more` changes, so that they need no memory.
@@ -210,4 +226,14 @@ fn first_long(runs: &[Block], size: u32) -> Option<u32>
     ensures { result ≡ option_map (λ r. r.at) (find (λ r. nat_le size r.size) runs.now) }
 {
     runs.iter().find(|run| size <= run.size).map(|run| run.at)
+}
+
+// The first run that tells whether the block, once it is given back, is the first fit of its size: it begins behind the
+// block, is as long, or ends where the block begins.
+fn first_told(runs: &[Block], block: Block) -> Option<Block>
+    ensures { result ≡ find (tells block) runs.now }
+{
+    runs.iter().copied().find(|run| {
+        block.at <= run.at || block.size <= run.size || block.at - run.at == run.size
+    })
 }

@@ -1,10 +1,10 @@
 //! What a quantum runs on.
 
-ghost use Rattle.std.specs.Prelude.{◌≡◌, ◌+◌, ◌<◌, ◌≤◌, ℕ, IsSome, None, OnErr, OnOk, Option, Some, length};
+ghost use Rattle.std.specs.Prelude.{◌≡◌, ◌+◌, ◌<◌, ◌≤◌, ℕ, IsSome, None, OnErr, OnOk, Option, Some, false, length, true};
 ghost use Rattle.tierra_model.specs.declared.limits.TheConstants.{MOST_SIZE};
 ghost use Rattle.tierra_model.specs.declared.events.Event.TheVariants as event;
 ghost use Rattle.tierra_model.specs.Draw.{word};
-ghost use Rattle.tierra_model.specs.Quantum.{Machine, flip, victim};
+ghost use Rattle.tierra_model.specs.Quantum.{Machine, flip, mal, victim};
 ghost use Rattle.tierra_model.specs.Queue.{number_of_others};
 ghost use Rattle.tierra_model.specs.Room.{room_for};
 ghost use Rattle.mutation_streams.specs.Draws.{draws_of};
@@ -152,6 +152,17 @@ pub trait Ground {
         ensures frame { OnOk result (frame self.new ≡ frame self.old) }
         ensures ready { OnOk result ((n : ℕ) → Ready self.old (n + 1) → Ready self.new n) }
         ensures err { OnErr result Refusal };
+
+    /// A `mal` of this size is done if it gives up the daughter block and gets the very same block again, and if this
+    /// ground can tell. Otherwise nothing is done.
+    fn take_again(&mut self, size: u32) -> bool
+        requires ready { Ready self.old 3 }
+        requires one { 1 ≤ size }
+        ensures done { result ≡ true → state self.new ≡ mal machine (frame self.old).settings size (state self.old) }
+        ensures not { result ≡ false → state self.new ≡ state self.old }
+        ensures frame { frame self.new ≡ frame self.old }
+        ensures left { result ≡ true → (n : ℕ) → Ready self.old (n + 3) → Ready self.new n }
+        ensures ready { result ≡ false → (n : ℕ) → Ready self.old n → Ready self.new n };
 
     /// The first creature of the reaper queue other than the one that runs, which stands at the place, dies.
     fn reap(&mut self, place: u32) -> Result<(), OutOfMemory>

@@ -21,6 +21,9 @@ pub(crate) fn mal<G: Ground>(ground: &mut G, size: u32) -> Result<(), OutOfMemor
     ensures ready { OnOk result ((n : ℕ) → G.Ready ground.old (n + 3) → G.Ready ground.new n) }
     ensures err { OnErr result G.Refusal }
 {
+    if ground.take_again(size) {
+        return Ok(());
+    }
     ground.ask_free();
     give_up(ground)?;
     make_room(ground, size)

@@ -245,6 +245,10 @@ impl<'a> Ground for OnScene<'a> {
         Ok(())
     }
 
+    fn take_again(&mut self, _size: u32) -> bool {
+        false
+    }
+
     fn reap(&mut self, place: u32) -> Result<(), OutOfMemory> {
         let dead = self.yard.remove(place);
         give_back(&mut self.free, &dead);

@@ -1,9 +1,9 @@
 //! A world that shares no page with a version of its soup.
 
-ghost use Rattle.std.specs.Prelude.{◌≡◌, ◌==◌, ◌<◌, ◌^◌, ◌≤◌, IfOk, OnOk, Some, find, length, option_copied, slice_index};
+ghost use Rattle.std.specs.Prelude.{◌≡◌, ◌==◌, ◌↔◌, ◌<◌, ◌^◌, ◌≤◌, IfOk, IsTrue, OnOk, Some, find, length, option_copied, slice_index};
 ghost use Rattle.tierra_model.specs.declared.limits.TheConstants.{MOST_SIZE};
 ghost use Rattle.tierra_model.specs.declared.events.Event.TheVariants as event;
-ghost use Rattle.tierra_model.specs.Events.{turn_end as turn_end_of};
+ghost use Rattle.tierra_model.specs.Events.{apply_event, turn_end as turn_end_of};
 ghost use Rattle.tierra_model.specs.Queue.{place_of_first_other};
 ghost use Rattle.tierra_model.specs.Replay.{CanHappen, RecordFits};
 ghost use Rattle.tierra_model.specs.Room.{is_owned, room_for};
@@ -164,6 +164,16 @@ impl Sole {
         self.running.room_for(size)
     }
 
+    /// Whether the daughter block is where a block of its size is to go, once it is given up.
+    pub(crate) fn room_again(&self, block: Block) -> bool
+        requires within { IsRunning self.now.world }
+        requires held { (front self.now.world).daughter ≡ Some block }
+        ensures { IsTrue result ↔ (room_for self.now.world.settings
+            (λ p. is_owned (apply_event self.now.world event.GiveUp).living p) block.size ≡ Some block.at) }
+    {
+        self.running.room_again(block)
+    }
+
     /// The place in the reaper queue of the first creature other than the one whose turn it is.
     pub(crate) fn victim(&self) -> Option<u32>
         requires { IsRunning self.now.world }
@@ -214,7 +224,7 @@ impl Sole {
         requires can { CanHappen self.old.world event.GiveUp }
         ensures { OnOk result (self.new ≡ sole_after event.GiveUp self.old) }
     {
-        self.running.reserve(0, 1)?;
+        self.running.reserve_blocks(1)?;
         self.running.give_up();
         self.daughter = None;
         Ok(())
@@ -226,7 +236,7 @@ impl Sole {
         requires can { CanHappen self.old.world (event.Mal block.at block.size) }
         ensures { OnOk result (self.new ≡ sole_after (event.Mal block.at block.size) self.old) }
     {
-        self.running.reserve(0, 1)?;
+        self.running.reserve_blocks(1)?;
         self.running.mal(block);
         self.daughter = Some(block);
         Ok(())
@@ -238,7 +248,7 @@ impl Sole {
         requires can { CanHappen self.old.world (event.Reap place) }
         ensures { OnOk result (self.new ≡ sole_after (event.Reap place) self.old) }
     {
-        self.running.reserve(0, 2)?;
+        self.running.reserve_blocks(2)?;
         self.running.reap(place);
         Ok(())
     }

@@ -140,6 +140,17 @@ impl Ground for CreatureTurn<'_> {
         self.sole.take(block)
     }
 
+    fn take_again(&mut self, size: u32) -> bool {
+        match self.creature.daughter {
+            Some(block) if block.size == size && self.sole.room_again(block) => {
+                self.creature.take(block);
+                self.sole.good();
+                true
+            }
+            _ => false,
+        }
+    }
+
     fn reap(&mut self, place: u32) -> Result<(), OutOfMemory> {
         self.sole.reap(place)
     }

@@ -1,5 +1,5 @@
 //! The model of a Tierra soup: the plain types that every crate speaks of, and in `specs/` the definitions that
-//! contracts cite. `docs/MODEL.md` tells each rule in words, beside the name of its definition.
+//! contracts cite. `docs/RULES.md` tells each rule in words, beside the name of its definition.
 #![tactic(auto)]
 
 mod creatures;

@@ -29,10 +29,10 @@ after-err w c r e =
     ∙ ap (λ (x : Creature). with_lists w (with_record x w.living) w.slicer
     (error_move (λ id. id == x.id) (λ id. (one_of (with_record x w.living) id).errors) w.reaper)) (sym e)
 
-pub after-good : (w : World) (c : Creature) → c ≡ front w
-    → apply_event w event.Good ≡ with_lists w w.living w.slicer (good_move (λ id. id == c.id) (λ id. (one_of w.living id).errors) w.reaper)
+pub after-good : (w : World) (k : ℕ) → k ≡ (front w).id
+    → apply_event w event.Good ≡ with_lists w w.living w.slicer (good_move (λ id. id == k) (λ id. (one_of w.living id).errors) w.reaper)
 unfolding apply_event
-after-good w c e = ap (λ (x : Creature). with_lists w w.living w.slicer (good_move (λ id. id == x.id) (errors_in w) w.reaper)) (sym e)
+after-good w k e = ap (λ (x : ℕ). with_lists w w.living w.slicer (good_move (λ id. id == x) (errors_in w) w.reaper)) (sym e)
 
 pub after-give_up : (w : World) (c : Creature) → c ≡ record_after event.GiveUp (front w)
     → apply_event w event.GiveUp ≡ with_lists w (with_record c w.living) w.slicer w.reaper

@@ -4,6 +4,7 @@ pub mod Tying
 pub mod Within
 pub mod EventWorlds
 pub mod RoomFor
+pub mod Again
 pub mod Numbered
 pub mod Cells
 pub mod Starting

@@ -105,13 +105,21 @@ impl Population {
         self.living.get(id).unwrap()
     }
 
+    /// The birth number at the front of the slicer queue.
+    pub(crate) fn first(&self) -> u64
+        requires { 0 < length self.now.slicer }
+        ensures { result ≡ first_of self.now.slicer }
+    {
+        self.slicer.front()
+    }
+
     /// The creature at the front of the slicer queue.
     pub(crate) fn front(&self) -> &Creature
         requires line { 0 < length self.now.slicer }
         requires here { 0 < times_in (ids_of self.now.living) (first_of self.now.slicer) }
         ensures { result.now ≡ one_of self.now.living (first_of self.now.slicer) }
     {
-        self.one(self.slicer.front())
+        self.one(self.first())
     }
 
     /// The birth number at a place of the slicer queue, if the queue reaches that far.
@@ -125,6 +133,13 @@ impl Population {
         ensures { result ≡ length self.now.reaper }
     {
         self.reaper.len()
+    }
+
+    /// The reaper queue, with the errors of each creature.
+    pub(crate) fn reaper(&self) -> &Reaper
+        ensures { result.now.entries ≡ entries_of self.now.living self.now.reaper }
+    {
+        &self.reaper
     }
 
     pub(crate) fn reaper_at(&self, place: u32) -> u64

@@ -50,7 +50,7 @@ impl Running {
         ensures births { self.new.births ≡ self.old.births }
         ensures blocks { self.new.blocks ≡ self.old.blocks }
     {
-        let id = self.population.front().id;
+        let id = self.front_id();
         self.population.good(id);
     }
 

@@ -1,8 +1,10 @@
 //! What a world is in the middle of a turn.
 
-ghost use Rattle.std.specs.Prelude.{All, ◌≡◌, ◌+◌, ◌<◌, ◌≤◌, ◌^◌, ℕ, IfOk, IfSome, IsSome, find, length, option_copied, option_map, slice_get, slice_index, slice_index_or, slice_range, ◌==◌};
+ghost use Rattle.std.specs.Prelude.{All, ◌≡◌, ◌↔◌, ◌+◌, ◌<◌, ◌≤◌, ◌^◌, ℕ, IfOk, IfSome, IsSome, IsTrue, Some, find, length, option_copied, option_map, slice_get, slice_index, slice_index_or, slice_range, ◌==◌};
 ghost use Rattle.tierra_model.specs.declared.limits.TheConstants.{MOST_SIZE};
+ghost use Rattle.tierra_model.specs.declared.events.Event.TheVariants as event;
 ghost use Rattle.tierra_model.specs.Blocks.{no_block};
+ghost use Rattle.tierra_model.specs.Events.{apply_event};
 ghost use Rattle.tierra_model.specs.FreeList.{free_list};
 ghost use Rattle.tierra_model.specs.Living.{ids_of, one_of};
 ghost use Rattle.tierra_model.specs.Queue.{place_of_first_other};
@@ -81,6 +83,14 @@ impl Running {
         self.population.front()
     }
 
+    /// The birth number of the creature whose turn it is.
+    pub(crate) fn front_id(&self) -> u64
+        requires { IsRunning self.now.world }
+        ensures { result ≡ (front self.now.world).id }
+    {
+        self.population.first()
+    }
+
     /// How many cells the living own.
     pub fn filled(&self) -> u32
         ensures { result ≡ filled self.now.world.settings.soup_size (λ p. is_owned self.now.world.living p) }
@@ -118,6 +128,18 @@ impl Running {
         }
     }
 
+    /// Whether the daughter block is where a block of its size is to go, once it is given up.
+    pub fn room_again(&self, block: Block) -> bool
+        requires within { IsRunning self.now.world }
+        requires held { (front self.now.world).daughter ≡ Some block }
+        ensures { IsTrue result ↔ (room_for self.now.world.settings
+            (λ p. is_owned (apply_event self.now.world event.GiveUp).living p) block.size ≡ Some block.at) }
+    {
+        let filled = u64::from(self.blocks.filled());
+        let most = u64::from(self.settings.fill_percent) * u64::from(self.settings.soup_size);
+        filled * 100 <= most && self.blocks.fits_again(block)
+    }
+
     /// How many creatures live, all of whom are in the reaper queue.
     pub fn reaper_len(&self) -> u32
         ensures { result ≡ length self.now.world.reaper }
@@ -153,8 +175,7 @@ impl Running {
         requires { IsRunning self.now.world }
         ensures { result ≡ place_of_first_other (front self.now.world).id self.now.world.reaper }
     {
-        self.population
-            .place_of_first_other(self.population.front().id)
+        self.population.place_of_first_other(self.front_id())
     }
 
     /// The genotypes in the order of first birth.

@@ -9,6 +9,7 @@ ghost use Rattle.world_core.specs.Tied.{AreTied};
 mod births;
 mod events;
 mod looking;
+mod parts;
 
 use crate::genes::Genes;
 use crate::population::Population;
@@ -144,6 +145,17 @@ impl Running {
         self.population.reserve(births)?;
         self.genes.reserve(births)?;
         self.census.reserve(births)
+    }
+
+    /// Makes room for this many blocks taken or given back.
+    pub fn reserve_blocks(&mut self, blocks: u32) -> Result<(), OutOfMemory>
+        ensures world { self.new.world ≡ self.old.world }
+        ensures ready { KeepsReady self.old self.new }
+        ensures ok { OnOk result (blocks ≤ self.new.blocks) }
+        ensures births { self.new.births ≡ self.old.births }
+        ensures blocks { self.old.blocks ≤ self.new.blocks }
+    {
+        self.blocks.reserve(blocks)
     }
 
     /// Makes a cell ready, so that it can be set.

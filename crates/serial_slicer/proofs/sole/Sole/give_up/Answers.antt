@@ -4,5 +4,5 @@ use Rattle.serial_slicer.proofs.sole.Sole.give_up.Goals as goal
 
 pub invariant_of-self-2 : goal.invariant_of-self-2
 invariant_of-self-2 c =
-    let reserved = sole-same c.self.inside.running c.reserve.new.self c.self.invariant c.reserve.ensures.ready c.reserve.ensures.world in
-    sole-event (event.GiveUp) c.reserve.new.self c.give_up.new.self reserved c.give_up.ensures.ready c.give_up.ensures.world
+    let reserved = sole-same c.self.inside.running c.reserve_blocks.new.self c.self.invariant c.reserve_blocks.ensures.ready c.reserve_blocks.ensures.world in
+    sole-event (event.GiveUp) c.reserve_blocks.new.self c.give_up.new.self reserved c.give_up.ensures.ready c.give_up.ensures.world

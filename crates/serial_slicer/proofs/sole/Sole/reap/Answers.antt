@@ -4,5 +4,5 @@ use Rattle.serial_slicer.proofs.sole.Sole.reap.Goals as goal
 
 pub invariant_of-self-2 : goal.invariant_of-self-2
 invariant_of-self-2 c =
-    let reserved = sole-same c.self.inside.running c.reserve.new.self c.self.invariant c.reserve.ensures.ready c.reserve.ensures.world in
-    sole-event (event.Reap c.args.place) c.reserve.new.self c.reap.new.self reserved c.reap.ensures.ready c.reap.ensures.world
+    let reserved = sole-same c.self.inside.running c.reserve_blocks.new.self c.self.invariant c.reserve_blocks.ensures.ready c.reserve_blocks.ensures.world in
+    sole-event (event.Reap c.args.place) c.reserve_blocks.new.self c.reap.new.self reserved c.reap.ensures.ready c.reap.ensures.world
