@@ -159,7 +159,9 @@ fn pattern(alloc: Global, len: u32) -> Result<Vec<u8>, AllocError> {
 // reads the bytes as they were, and the length that it is told.
 fn written_on(rt: &HostRuntime, bytes: &[u8]) -> Result<(bool, u64), Fail> {
     let mut first = FileDesk::new(rt, BANK, Vec::new(rt.alloc()));
-    first.write_at(0, bytes)?;
+    if !bytes.is_empty() {
+        first.write_at(0, bytes)?;
+    }
     first.sync()?;
     drop(first);
     let mut second = FileDesk::new(rt, BANK, Vec::new(rt.alloc()));
