@@ -1,24 +1,26 @@
 //! What the first quanta of small worlds find, each run by itself from the world's start. All rows were worked out by
 //! hand.
 
-ghost use Rattle.std.specs.Prelude.{◌≡◌, ◌<◌};
+ghost use Rattle.std.specs.Prelude.{◌≡◌, ◌<◌, IfOk};
+ghost use Rattle.tierra_model.specs.FreeList.{free_list};
 
-use commit_book::{Book, Claim};
-use quantum_run::{Finding, Job, run_quantum};
+use quantum_run::{Finding, Job, Workspace, run_quantum};
 use read_sets::Reads;
 use std::alloc::Global;
 use std::marker::Brand;
+use std::sync::Arc;
 use std::sync::ledger::{Blank, Ledger};
 use std::test::Fail;
 use step_count::Steps;
 use test_soups::{TWO, setup_of};
-use tierra_model::{Creature, Event, OutOfMemory};
+use tierra_model::{Creature, Event, FreeList, MOST_QUANTA, Now, OutOfMemory};
+use world_core::World;
 
 /// What the job of a quantum finds in the world of a soup file.
 #[derive(Clone, Copy, Drop)]
 struct Row {
     file: &'static str,
-    quantum: u64,
+    quantum: u32,
     /// The cells in the order of reading: the first cell of each run, and what the cells hold.
     cells: &'static [(u32, &'static [u8])],
     /// Where each free run begins, and its size.
@@ -299,16 +301,39 @@ fn rows() -> [Row; 12] {
     ROWS
 }
 
+fn free_list(alloc: Global, world: &World) -> Result<FreeList, OutOfMemory>
+    ensures { IfOk result (λ free. free ≡ free_list world.now.world) }
+{
+    let mut items = Vec::with_capacity(alloc, world.free_len() as usize)?;
+    for place in 0..world.free_len() {
+        items.push(world.free_at(place))?;
+    }
+    Ok(FreeList { items })
+}
+
+/// The job of the quantum `k` after the next, made of the parts of a world, if there is such a quantum, and a creature
+/// for it.
+fn job_of(alloc: Global, world: &mut World, k: u32) -> Result<Option<Job>, OutOfMemory> {
+    if MOST_QUANTA.saturating_sub(world.quanta()) <= u64::from(k) {
+        return Ok(None);
+    }
+    let free = Arc::new(alloc, free_list(alloc, world)?)?;
+    let yard = Arc::new(alloc, world.yard(alloc)?)?;
+    let soup = world.version()?;
+    let room = Workspace::new(alloc).spare_room();
+    let quantum = world.quanta() + u64::from(k) + 1;
+    let Some(front) = world.place(k) else {
+        return Ok(None);
+    };
+    let settings = world.settings();
+    let job = Job::of(alloc, settings, quantum, front, soup, free, yard, room)?;
+    Ok(Some(job))
+}
+
 /// The job of a quantum, made from the start of a soup file's world, if it has enough creatures.
-fn first_job(alloc: Global, file: &str, quantum: u64) -> Result<Option<Job>, Fail> {
-    let mut book = Book::begin(alloc, setup_of(alloc, file)?, 10, 8)?;
-    for _before in 1..quantum {
-        let _job = book.claim(alloc);
-    }
-    match book.claim(alloc) {
-        Claim::Job(job) => Ok(Some(job)),
-        _ => Ok(None),
-    }
+fn first_job(alloc: Global, file: &str, quantum: u32) -> Result<Option<Job>, Fail> {
+    let mut world = World::start(alloc, &setup_of(alloc, file)?)?;
+    Ok(job_of(alloc, &mut world, quantum.saturating_sub(1))?)
 }
 
 /// What a job finds.
@@ -387,7 +412,7 @@ fn is_found(alloc: Global, row: &Row) -> Result<[bool; 3], Fail> {
     Ok([
         is_as_told(&finding, row),
         is_as_told(&copy, row),
-        (finding.quantum(), finding.before().id) == (row.quantum, job.front().id),
+        (finding.quantum(), finding.before().id) == (u64::from(row.quantum), job.front().id),
     ])
 }
 
