@@ -14,20 +14,21 @@ LONG = 100000  # what takes much time to read, and comes again
 answers = {}  # those of long files, by their digests
 PART = re.compile("\n+|;[^\n]*|[^ \t\r\n;]+")
 TWO_DIGITS = re.compile("[0-9a-fA-F]{2}")
-TIMED = {"quanta": (1, 4000000)}
 ACTIONS = {
-    "grow": TIMED | {"workers": (1, 64)},
-    "run": TIMED | {"workers": (1, 64)},
-    "drill": TIMED | {"number": (0, 2**64 - 1)},
-    "dump": TIMED,
-    "curve": TIMED | {"every": (1, 4000000)},
+    # actions: made by docs/make_tables
+    "grow": {"quanta": (1, 4000000), "workers": (1, 64)},
+    "run": {"quanta": (1, 4000000), "workers": (1, 64)},
     "bank": {},
-    "probe": TIMED | {"workers": (1, 64)},
-    "isles": TIMED | {"epochs": (1, 1000), "isles": (1, 64), "workers": (1, 64)},
+    "probe": {"quanta": (1, 4000000), "workers": (1, 64)},
+    "dump": {"quanta": (1, 4000000)},
+    "curve": {"quanta": (1, 4000000), "every": (1, 4000000)},
+    "hold": {"quanta": (1, 4000000), "every": (1, 4000000)},
+    "watch": {"quanta": (1, 4000000), "workers": (1, 63), "looks": (1, 1000)},
+    "isles": {"quanta": (1, 4000000), "workers": (1, 64), "isles": (1, 64), "epochs": (1, 1000)},
+    "drill": {"quanta": (1, 4000000), "number": (0, 18446744073709551615)},
     "asm": {},
     "dis": {},
-    "hold": TIMED | {"every": (1, 4000000)},
-    "watch": TIMED | {"workers": (1, 63), "looks": (1, 1000)},
+    # end of actions
 }
 OPTIONS = {option for row in ACTIONS.values() for option in row}
 

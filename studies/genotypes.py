@@ -20,8 +20,10 @@ from .refusal import Refused
 ALPHABET = "ABCDEFGHIJKLMNOPQRSTUVWXYZ234567"
 # Tierra's names of the instructions, in the order of their codes.
 TIERRA = (
-    "nop0 nop1 not0 shl zero ifz subCAB subAAC incA incB decC incC pushA pushB pushC pushD "
-    "popA popB popC popD jmpo jmpb call ret movDC movBA movii adro adrb adrf mal divide"
+    # instructions: made by docs/make_tables
+    "nop0 nop1 not0 shl zero ifz subCAB subAAC incA incB decC incC pushA pushB pushC pushD popA popB popC "
+    "popD jmpo jmpb call ret movDC movBA movii adro adrb adrf mal divide"
+    # end of instructions
 ).split()
 
 

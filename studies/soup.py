@@ -12,16 +12,36 @@ import tomlkit.items
 from .refusal import Refused
 
 INSTRUCTIONS = (
+    # instructions: made by docs/make_tables
     "nop_0 nop_1 or1 shl zero if_cz sub_ab sub_ac inc_a inc_b dec_c inc_c push_ax push_bx push_cx push_dx "
     "pop_ax pop_bx pop_cx pop_dx jmp jmpb call ret mov_cd mov_ab mov_iab adr adrb adrf mal divide"
+    # end of instructions
 ).split()
 CODE_OF = {name: code for code, name in enumerate(INSTRUCTIONS)}
 # Each setting with its default, in the order in which the digest of a setup has them; the two of the disturbance come last.
 SETTINGS = {
-    "soup_size": 60000, "slice_size": 25, "slice_by_size": False, "slice_num": 1, "slice_den": 4, "search_limit": 400,
-    "min_template": 1, "min_cell": 12, "max_cell": 20000, "mal_mult": 3, "fill_percent": 80, "move_percent": 70,
-    "save_at": 2, "back_rate": 0, "copy_rate": 0, "flaw_rate": 0, "seed": "0" * 64, "dist_every": 0, "dist_percent": 10,
-}  # fmt: skip
+    # settings: made by docs/make_tables
+    "soup_size": 60000,
+    "slice_size": 25,
+    "slice_by_size": False,
+    "slice_num": 1,
+    "slice_den": 4,
+    "search_limit": 400,
+    "min_template": 1,
+    "min_cell": 12,
+    "max_cell": 20000,
+    "mal_mult": 3,
+    "fill_percent": 80,
+    "move_percent": 70,
+    "save_at": 2,
+    "back_rate": 0,
+    "copy_rate": 0,
+    "flaw_rate": 0,
+    "seed": "0" * 64,
+    "dist_every": 0,
+    "dist_percent": 10,
+    # end of settings
+}
 MOST_BYTES = 1048576
 MOST_QUANTA, USUAL_EVERY = 4000000, 1000
 

@@ -1,5 +1,8 @@
-"""What the tests share: a checkout with the tools and a few small crates, and a stand-in for the kit."""
+"""What the tests share: a checkout with the tools and a few small crates, and a stand-in for the kit; and a copy of the
+repository whose files the tests change."""
 
+import importlib.machinery
+import importlib.util
 import os
 import pathlib
 import shutil
@@ -108,3 +111,49 @@ def checkout(tmp_path):
         if process.poll() is None:
             process.kill()
             process.wait()
+
+
+def run(*words, **how):
+    done = subprocess.run([str(word) for word in words], capture_output=True, text=True, timeout=WAIT, **how)
+    return done.returncode, done.stdout, done.stderr
+
+
+def load(path):
+    """The module of a script whose name has no ending."""
+    loader = importlib.machinery.SourceFileLoader(path.name, str(path))
+    module = importlib.util.module_from_spec(importlib.util.spec_from_loader(path.name, loader))
+    loader.exec_module(module)
+    return module
+
+
+@pytest.fixture(scope="module")
+def repository(tmp_path_factory):
+    """A copy of the repository, whose pages the tests change."""
+    top = tmp_path_factory.mktemp("copy") / "top"
+    shutil.copytree(TOP, top, ignore=shutil.ignore_patterns("out", ".git", "target", "__pycache__", "mutants"))
+    return top
+
+
+@pytest.fixture
+def change(repository):
+    """Changes a text that stands once in a file of the copy. All is as it was when the test ends."""
+    kept = {}
+
+    def do(name, old, new):
+        file = repository / name
+        text = file.read_text()
+        kept.setdefault(file, text)
+        assert text.count(old) == 1, f"{name} has {text.count(old)} times {old!r}"
+        file.write_text(text.replace(old, new))
+
+    yield do
+    for file, text in kept.items():
+        file.write_text(text)
+
+
+def faults(repository):
+    """What docs/check_pages finds in the copy."""
+    status, told, _ = run(repository / "docs/check_pages")
+    *found, last = told.splitlines()
+    assert status == (1 if found else 0) and last.endswith(f", {len(found)} faults")
+    return [line.removeprefix("check_pages: ") for line in found]

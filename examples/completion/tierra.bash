@@ -4,29 +4,33 @@
 #
 # or copy it to ~/.local/share/bash-completion/completions/tierra.
 
-# The options of an action.
+# The options of an action, or all.
 _tierra_options() {
-  case $1 in
+  case ${1-} in
+    # options: made by docs/make_tables
     grow | run | probe) echo '--quanta --workers' ;;
-    drill) echo '--quanta --number' ;;
+    bank | asm | dis) ;;
     dump) echo '--quanta' ;;
     curve | hold) echo '--quanta --every' ;;
     watch) echo '--quanta --workers --looks' ;;
     isles) echo '--quanta --workers --isles --epochs' ;;
-    asm | dis | bank) ;;
+    drill) echo '--quanta --number' ;;
     *) echo '--quanta --workers --number --every --looks --isles --epochs' ;;
+    # end of options
   esac
 }
 
 _tierra() {
-  local actions='grow run drill dump hold curve watch isles bank probe asm dis'
+  # actions: made by docs/make_tables
+  local actions='grow run bank probe dump curve hold watch isles drill asm dis'
+  # end of actions
   local current=${COMP_WORDS[COMP_CWORD]} before=${COMP_WORDS[COMP_CWORD - 1]} action='' word options=''
   case $before in
     *'<' | *'>') return ;; # a file, as bash does it
   esac
   compopt +o default
-  case $before in
-    --quanta | --workers | --number | --every | --looks | --isles | --epochs) return ;;
+  case " $(_tierra_options) " in
+    *" $before "*) return ;;
   esac
   for word in "${COMP_WORDS[@]:1:COMP_CWORD-1}"; do
     case " $actions " in
