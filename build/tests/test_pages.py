@@ -1,12 +1,9 @@
-"""docs/check_pages and docs/run_pages, release/make_release and benches/built."""
+"""docs/check_pages and docs/run_pages, and benches/built."""
 
 import os
 import shutil
 
-import pytest
 from conftest import TOP, faults, load, run
-
-RELEASE = "usage: release/make_release FOLDER [--test-program FILE]"
 
 
 def test_the_pages_have_no_fault(repository):
@@ -50,18 +47,6 @@ def test_the_commands_of_a_page(tmp_path):
     run_block, others = "text\n```sh\n$ one\nsaid\n$ two\n```\n", "```sh\n$ three\n```\n"
     page.write_text(f"{run_block}<!-- shown -->\n{others}<!-- long -->\n{others}```sh\nno command\n```\n")
     assert list(pages.blocks(page)) == [[(3, "one", ["said"]), (5, "two", [])]]
-
-
-def test_make_release_tells_its_words():
-    status, told, said = run(TOP / "release/make_release", "--help")
-    assert (status, said) == (0, "") and told.startswith(f"{RELEASE}\n\nMakes a release")
-
-
-@pytest.mark.parametrize("words", [[], ["-x"], ["a", "b"], ["a", "--test-program"], ["-a", "--test-program", "b"]])
-def test_make_release_refuses_other_words(words, tmp_path):
-    status, told, said = run(TOP / "release/make_release", *words, cwd=tmp_path)
-    assert (status, told, said) == (1, "", f"{RELEASE}\n")
-    assert list(tmp_path.iterdir()) == []
 
 
 def test_the_program_that_is_measured(tmp_path, checkout):
