@@ -37,7 +37,8 @@ def release(repository, tmp_path_factory):
     """The folder of a release of the copy, and that of its unpacked tarball."""
     room, top = tmp_path_factory.mktemp("release"), repository
     (room / "tools").mkdir()
-    for name, script in (("dpkg-buildpackage", DPKG_BUILDPACKAGE), ("lintian", "#!/bin/sh\n"), ("program", "#!/bin/sh\n")):
+    nothing = "#!/bin/sh\n"
+    for name, script in {"dpkg-buildpackage": DPKG_BUILDPACKAGE, "lintian": nothing, "program": nothing}.items():
         (room / "tools" / name).write_text(script)
         (room / "tools" / name).chmod(0o755)
     one = ["-c", "user.name=somebody", "-c", "user.email=somebody@example.org", "-c", "gc.auto=0"]
@@ -74,8 +75,10 @@ def test_what_is_installed(release):
     page = (TOP / "docs/FILES.md").read_text().split("## A release\n")[1]
     places = re.findall(r"`((?:bin|share)/[\w/-]+)`", page)
     assert len(places) > 6 and all((root / place).exists() for place in places)
-    assert all((doc / name).is_file() for name in ("README.md", "docs/ACTIONS.md", "docs/pictures/sizes.png", "examples/soup.toml"))
-    assert not [path for path in doc.rglob("*") if path.is_file() and path.stat().st_mode & 0o111 and path.name != "check_soup"]
+    wanted = ("README.md", "docs/ACTIONS.md", "docs/pictures/sizes.png", "examples/soup.toml")
+    assert all((doc / name).is_file() for name in wanted)
+    tools = [path.name for path in doc.rglob("*") if path.is_file() and path.stat().st_mode & 0o111]
+    assert tools == ["check_soup"]
     assert not (root / "share/zuldokan/studies/tests").exists()
 
 

@@ -40,7 +40,8 @@ def test_another_line_of_a_table_is_named(repository, change, name, part):
     end, number, last = found.end("made") - 1, text[: found.end("made")].count("\n"), found["made"].splitlines()[-1]
     change(name, text[end:], "x" + text[end:])
     (fault,) = made_faults(repository)
-    assert fault.startswith(f"{name}:{number} has {last.strip() + 'x'!r}, where docs/make_tables writes {last.strip()!r}")
+    told = f"{name}:{number} has {last.strip() + 'x'!r}, where docs/make_tables writes {last.strip()!r}"
+    assert fault.startswith(told)
 
 
 def test_a_table_without_its_comment_is_named(repository, change):
@@ -74,22 +75,22 @@ def test_make_tables_refuses_other_words():
 @pytest.mark.parametrize(
     ("old", "new", "fault"),
     [
-        ('name = "dis"', 'name = "undo"', "docs/tables.toml has other actions in 'usage' than in its rows: ['dis', 'undo']"),
-        ('["quanta", "every"]\nsource', '["every", "all"]\nsource', "docs/tables.toml has no row for the option all of curve"),
+        ('name = "dis"', 'name = "undo"', "has other actions in 'usage' than in its rows: ['dis', 'undo']"),
+        ('["quanta", "every"]\nsource', '["every", "all"]\nsource', "has no row for the option all of curve"),
     ],
 )
 def test_tables_that_do_not_fit_each_other(repository, change, old, new, fault):
     text = (repository / "docs/tables.toml").read_text()
     change("docs/tables.toml", text, text.replace(old, new, 1))
-    assert run(repository / "docs/make_tables") == (1, "", f"make_tables: {fault}\n")
+    assert run(repository / "docs/make_tables") == (1, "", f"make_tables: docs/tables.toml {fault}\n")
 
 
 @pytest.mark.parametrize(
     ("old", "new", "fault"),
     [
-        ('["quanta", "workers", "looks"]', '["workers", "looks"]', "actions, options or ranges than crates/soup_words: ['watch']"),
-        ("most = { workers = 63 }", "most = { workers = 62 }", "actions, options or ranges than crates/soup_words: ['watch']"),
-        ("greatest = 64\ndefault = 2\n", "greatest = 64\ndefault = 3\n", "options or defaults than crates/soup_words: ['isles']"),
+        ('["quanta", "workers", "looks"]', '["workers", "looks"]', "options or ranges than crates/soup_words: ['watch']"),
+        ("most = { workers = 63 }", "most = { workers = 62 }", "options or ranges than crates/soup_words: ['watch']"),
+        ("64\ndefault = 2\n", "64\ndefault = 3\n", "options or defaults than crates/soup_words: ['isles']"),
         ('letter = "K"', 'letter = "X"', "usage line than crates/soup_top"),
         ('usage = ["grow", "run"', 'usage = ["run", "grow"', "usage line than crates/soup_top"),
         ('name = "save_at"', 'name = "keep_at"', "keys than crates/soup_file, or another order"),
@@ -114,7 +115,7 @@ def test_a_fault_of_the_one_file_is_named(repository, checks, old, new, fault):
         ("soup_ops/src/lib.rt", '=> "jmpb",', '=> "jumpb",', "crates/soup_ops, or other codes"),
         ("soup_top/src/status.rt", "grow|run|asm", "grow|asm|run", "usage line than crates/soup_top"),
         ("tierra_model/src/keys.rt", "default: 60_000,", "default: 6_000,", "crates/tierra_model: ['soup_size']"),
-        ("tierra_model/src/limits.rt", "SLICE: u32 = 10_000", "SLICE: u32 = 9_000", "crates/tierra_model: ['slice_size']"),
+        ("tierra_model/src/limits.rt", "SLICE: u32 = 10_000", "SLICE: u32 = 9_000", "tierra_model: ['slice_size']"),
         ("tierra_model/src/setups.rt", "mal_mult: MAL_MULT", "mal_mult: MIN_CELL", "crates/tierra_model: ['mal_mult']"),
     ],
 )
