@@ -21,6 +21,7 @@ FAULTS = [
     ("docs/ACTIONS.md", "$ ../tierra probe --quanta 100", "$ ../tierra", "docs/ACTIONS.md has no example of probe"),
     ("docs/FROM_TIERRA.md", "| SavMinNum | `save_at` |", "| SavMinNum | save |", "docs/FROM_TIERRA.md lacks save_at"),
     ("examples/soup.toml", "\nmal_mult = 3 ", "\nmal_mult = 4 ", "examples/soup.toml lacks mal_mult"),
+    ("README.md", "[LOG](docs/LOG.md): what", "what", "README.md does not name docs/LOG.md"),
     ("CITATION.cff", "\nversion: ", "\nversion: 9.", "CITATION.cff is not of version"),
     ("build/costs.tsv", "\ncrew\t", "\nquads\t", "build/costs.tsv and crates.txt differ in ['crew', 'quads']"),
     ("docs/DECISIONS.md", "| `genotyper` | `parse_name`", "| `genotyper` | `parse`", "docs/DECISIONS.md lacks parse"),
