@@ -190,6 +190,5 @@ def settings_of(like: Optional[str], words: list[str]) -> dict:
 
 def bench_of(args: argparse.Namespace) -> Bench:
     """The bench that the words of a verb ask for."""
-    if not 1 <= args.quanta <= soup.MOST_QUANTA:
-        raise Refused(f"--quanta is from 1 to {soup.MOST_QUANTA:,}")
+    soup.check_quanta(args.quanta)
     return Bench(settings_of(args.like, args.set), args.quanta, program.find(args.program), jobs_of(args.jobs), args.kept)

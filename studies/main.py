@@ -1,4 +1,4 @@
-"""The command `studies/zuldokan VERB ..`: one module a verb, loaded only when it is asked for."""
+"""The command `zuldokan VERB ..`: one module a verb, loaded only when it is asked for."""
 import argparse
 import importlib
 import sys
@@ -60,7 +60,7 @@ def main(words=None):
     try:
         if verb not in VERBS:
             raise Refused(f"no verb {verb}; zuldokan --help names them")
-        module = importlib.import_module(f"studies.{verb}")
+        module = importlib.import_module(f".{verb}", __package__)
         module.run(parser_of(verb, module).parse_args(rest))
         sys.stdout.flush()
     except BrokenPipeError:

@@ -7,6 +7,7 @@ the program kept; and files, the SHA-256 of each file of the folder.
 """
 import datetime
 import hashlib
+import importlib.metadata
 import pathlib
 import platform
 from typing import Optional
@@ -26,11 +27,22 @@ def is_proved(path: str) -> Optional[bool]:
     return built.get(pathlib.Path(path).resolve())
 
 
+def version() -> str | None:
+    """The version of this repository, or of the package where it was installed elsewhere."""
+    path = program.TOP / "VERSION"
+    if path.exists():
+        return path.read_text().strip()
+    try:
+        return importlib.metadata.version("zuldokan")
+    except importlib.metadata.PackageNotFoundError:
+        return None
+
+
 def of_program(path: str) -> dict:
     """What is noted of the program."""
-    kit, proved, version = program.TOP / "crates/tierra/out/kit", is_proved(path), program.TOP / "VERSION"
+    kit, proved = program.TOP / "crates/tierra/out/kit", is_proved(path)
     return {
-        "version": version.read_text().strip() if version.exists() else None, "commit": program.commit(), "program": program.digest(path),
+        "version": version(), "commit": program.commit(), "program": program.digest(path),
         "proved": proved, "kit": kit.read_text().strip() if proved and kit.exists() else None, "host": platform.node(),
     }  # fmt: skip
 

@@ -1,5 +1,5 @@
-"""Finds the program and runs it. The program is that of `--program`, or of the variable ZULDOKAN_PROGRAM, or the one that the
-script `tierra` of this repository says it has built."""
+"""Finds the program and runs it. The program is that of `--program`, or of the variable ZULDOKAN_PROGRAM or TIERRA, or the one that the
+script `tierra` of this repository says it has built, or `tierra` on the PATH."""
 import hashlib
 import os
 import pathlib
@@ -11,22 +11,41 @@ import tempfile
 from .refusal import Refused
 
 TOP = pathlib.Path(__file__).resolve().parent.parent
+VARIABLES = ("ZULDOKAN_PROGRAM", "TIERRA")
 MEMORY = "/dev/shm"
 UNPROVED_SPEED = 1860  # quanta a second of the program that `./tierra --unproved` builds
 
 
 def add_argument(parser):
-    parser.add_argument("--program", help="the program; else the variable ZULDOKAN_PROGRAM, else what ./tierra has built")
+    told = "the program; else the variable ZULDOKAN_PROGRAM or TIERRA, else what ./tierra has built, else tierra on the PATH"
+    parser.add_argument("--program", help=told)
 
 
-def find(named=None):
+def is_repository(top: pathlib.Path) -> bool:
+    """Whether a folder is the top of this repository, and no other place where the tools were installed."""
+    return (top / "crates.txt").is_file() and (top / "tierra").is_file()
+
+
+def built(top: pathlib.Path) -> str | None:
+    """The program that the script `tierra` of a repository has built; None where there is none."""
+    if not is_repository(top):
+        return None
+    where = subprocess.run([top / "tierra", "--where"], capture_output=True, text=True)
+    return None if where.returncode else where.stdout.strip()
+
+
+def on_path() -> str | None:
+    """The program `tierra` on the PATH, or the one that it has built, where it is the script of a repository."""
+    found = shutil.which("tierra")
+    top = pathlib.Path(found or "").resolve().parent
+    return built(top) if found and is_repository(top) else found
+
+
+def find(named: str | None = None) -> str:
     """The path of the program."""
-    named = named or os.environ.get("ZULDOKAN_PROGRAM")
+    named = named or next(filter(None, map(os.environ.get, VARIABLES)), None) or built(TOP) or on_path()
     if not named:
-        where = subprocess.run([TOP / "tierra", "--where"], capture_output=True, text=True)
-        if where.returncode:
-            raise Refused("the program is not built yet: run ./tierra once, or name another one with --program or ZULDOKAN_PROGRAM")
-        named = where.stdout.strip()
+        raise Refused("there is no program: run ./tierra once in the repository, or name one with --program, ZULDOKAN_PROGRAM or TIERRA")
     if not os.access(named, os.X_OK) or not os.path.isfile(named):
         raise Refused(f"{named} is no program")
     return os.path.abspath(named)
@@ -45,8 +64,10 @@ def forecast(path: str, quanta: float) -> None:
         print(f"zuldokan: {line}", file=sys.stderr, flush=True)
 
 
-def commit():
-    """The commit of this repository, with `+` where its files were changed since; None outside a repository."""
+def commit() -> str | None:
+    """The commit of this repository, with `+` where its files were changed since; None outside it."""
+    if not is_repository(TOP):
+        return None
     asked = ["git", "-C", str(TOP), "describe", "--always", "--abbrev=40", "--exclude=*", "--dirty=+"]
     try:
         said = subprocess.run(asked, capture_output=True, text=True)

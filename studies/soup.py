@@ -162,6 +162,12 @@ def value_of(key, text):
     return int(text)
 
 
+def check_quanta(quanta: int) -> None:
+    """Refuses quanta that no run has."""
+    if not 1 <= quanta <= MOST_QUANTA:
+        raise Refused(f"--quanta is from 1 to {MOST_QUANTA:,}")
+
+
 def seed_text(number):
     """The text of a seed that is given as a number."""
     if not 0 <= number < 16**64:

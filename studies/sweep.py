@@ -103,6 +103,12 @@ def texts_of(document, asked):
     return texts
 
 
+def planned(path, words, seeds):
+    """The soup file of each run by name, and what each asks for: with each seed, or with the file's own where there are none."""
+    asked = asked_for(values_of(words), [None] if seeds is None else seeds)
+    return texts_of(soup.read(path), asked), asked
+
+
 def replace(path, text):
     """Writes a file so that it is there whole or not at all."""
     part = path.with_name(path.name + ".part")
@@ -154,16 +160,14 @@ def do_run(folder, text, known, named):
     return True
 
 
-def command_of(args):
+def command_of(action, quanta, every):
     """The words for the program."""
-    if not 1 <= args.quanta <= soup.MOST_QUANTA:
-        raise Refused(f"--quanta is from 1 to {soup.MOST_QUANTA:,}")
-    if args.action == "run" and args.every is not None:
+    soup.check_quanta(quanta)
+    if action == "run" and every is not None:
         raise Refused("--every goes with --action hold or curve")
-    if args.action == "hold" and (args.every or soup.USUAL_EVERY) > args.quanta:
-        raise Refused(f"--quanta {args.quanta} is below --every {args.every or soup.USUAL_EVERY}: the runs would keep no checkpoint")
-    every = f" --every {args.every}" if args.every is not None else ""
-    return f"{args.action} --quanta {args.quanta}{every}"
+    if action == "hold" and (every or soup.USUAL_EVERY) > quanta:
+        raise Refused(f"--quanta {quanta} is below --every {every or soup.USUAL_EVERY}: the runs would keep no checkpoint")
+    return f"{action} --quanta {quanta}" + (f" --every {every}" if every is not None else "")
 
 
 def chosen(texts, one):
@@ -197,10 +201,8 @@ def run_all(top: pathlib.Path, runs: dict[str, tuple[str, dict]], command: str, 
 
 
 def run(args):
-    seeds = seeds_of(args.seeds) if args.seeds else [None]
-    asked = asked_for(values_of(args.set), seeds)
-    texts = texts_of(soup.read(args.soup), asked)
-    command, names = command_of(args), chosen(texts, args.one)
+    texts, asked = planned(args.soup, args.set, seeds_of(args.seeds) if args.seeds else None)
+    command, names = command_of(args.action, args.quanta, args.every), chosen(texts, args.one)
     if args.list:
         print("\n".join(texts))
         return

@@ -23,6 +23,7 @@ FAULTS = [
     ("examples/soup.toml", "\nmal_mult = 3 ", "\nmal_mult = 4 ", "examples/soup.toml lacks mal_mult"),
     ("README.md", "[LOG](docs/LOG.md): what", "what", "README.md does not name docs/LOG.md"),
     ("CITATION.cff", "\nversion: ", "\nversion: 9.", "CITATION.cff is not of version"),
+    ("studies/pyproject.toml", '\nversion = "', '\nversion = "9.', "studies/pyproject.toml is not of version"),
     ("build/costs.tsv", "\ncrew\t", "\nquads\t", "build/costs.tsv and crates.txt differ in ['crew', 'quads']"),
     ("docs/DECISIONS.md", "| `genotyper` | `parse_name`", "| `genotyper` | `parse`", "docs/DECISIONS.md lacks parse"),
 ]
