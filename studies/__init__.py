@@ -36,7 +36,6 @@ else:
             raise AttributeError(f"{__name__} has no {name}") from None
 
 
-
 def read_checkpoints(path: str | Path, soup: str | Path | None = None) -> list[World]:
     """The worlds of a file of checkpoints, `tierra.hold`, in the order of time; none where nothing was kept yet.
 
@@ -228,7 +227,7 @@ def run_sweep(
     from . import program as programs
 
     words = [f"{key}={','.join(str(value).lower() for value in some)}" for key, some in (values or {}).items()]
-    texts, asked = sweep.planned(soup, words, None if seeds is None else list(seeds))
+    texts, asked = sweep.planned(soup, words, [None] if seeds is None else list(seeds))
     runs = {name: (text, asked[name]) for name, text in texts.items()}
     sweep.run_all(Path(into), runs, sweep.command_of(action, quanta, every), programs.find(program), alone.jobs_of(jobs))
     return [Path(into) / name for name in runs]

@@ -6,22 +6,23 @@
 The columns stand in Muller order: each genotype after its parent, its descendants together. `--most` keeps the genotypes that had
 the most individuals at any checkpoint, and adds up the others in the column `others`. Unit: living creatures.
 """
+import argparse
 import sys
 
 import pandas
 
-from . import frames
+from . import files, frames
 
 
-def add_arguments(parser):
+def add_arguments(parser: argparse.ArgumentParser) -> None:
     frames.add_hold(parser)
     parser.add_argument("--by", choices=["genotype", "size"], default="genotype")
     parser.add_argument("--most", type=int, help="how many genotypes have a column of their own (default all)")
 
 
-def muller_order(genotypes):
+def muller_order(genotypes: pandas.DataFrame) -> list[int]:
     """The numbers of the genotypes, each after its parent and before its parent's later daughters: the order of a Muller plot."""
-    daughters = {}
+    daughters: dict[int | None, list[int]] = {}
     for row in genotypes[["genotype", "parent"]].itertuples(index=False):
         daughters.setdefault(None if row.parent is None or row.parent != row.parent else int(row.parent), []).append(row.genotype)
     order, waiting = [], daughters.get(None, [])[::-1]
@@ -31,7 +32,7 @@ def muller_order(genotypes):
     return order
 
 
-def abundance(worlds, by="genotype", most=None):
+def abundance(worlds: list[files.World], by: str = "genotype", most: int | None = None) -> pandas.DataFrame:
     """The table of living creatures by quantum and by the names of genotypes, or by sizes."""
     table = frames.living(worlds)
     if by == "size":
@@ -54,7 +55,7 @@ def size_class(size: int) -> str:
     return f"{size // 10 * 10} to {size // 10 * 10 + 9}"
 
 
-def with_size_classes(worlds, most: int, share: float = 0.25) -> pandas.DataFrame:
+def with_size_classes(worlds: list[files.World], most: int, share: float = 0.25) -> pandas.DataFrame:
     """The table with the others by classes of size: as many of these as it takes until the rest is at most such a share of all creatures."""
     living = frames.living(worlds)
     shown = abundance(worlds, most=most)
@@ -71,5 +72,5 @@ def with_size_classes(worlds, most: int, share: float = 0.25) -> pandas.DataFram
     return made.assign(others=others) if others.any() else made
 
 
-def run(args):
+def run(args: argparse.Namespace) -> None:
     abundance(frames.worlds_of(args), args.by, args.most).to_csv(sys.stdout)

@@ -15,7 +15,7 @@ import concurrent.futures
 import json
 import os
 import pathlib
-from typing import Iterable, NamedTuple, Optional
+from typing import Any, Iterable, NamedTuple, Optional
 
 from . import files, printed, program, soup, sweep
 from .progress import Progress
@@ -23,7 +23,7 @@ from .refusal import Refused
 
 MOST_DAUGHTERS = 3
 # What would leave something to chance, or change a world from outside.
-STILL = {"back_rate": 0, "copy_rate": 0, "flaw_rate": 0, "dist_every": 0, "seed": soup.SETTINGS["seed"]}
+STILL: dict[str, Any] = {"back_rate": 0, "copy_rate": 0, "flaw_rate": 0, "dist_every": 0, "seed": soup.SETTINGS["seed"]}
 
 
 def add_arguments(parser: argparse.ArgumentParser) -> None:
@@ -149,8 +149,8 @@ class Bench:
         self.known[key] = seen
         if self.kept is None:
             return
-        row = dict(zip(("setup", "quanta", "program"), key)) | {"code": code.hex(), "births": seen.births}
-        row |= {"daughters": [daughter.hex() for daughter in seen.daughters], **seen.efforts}
+        row: dict[str, object] = dict(zip(("setup", "quanta", "program"), key)) | {"code": code.hex(), "births": seen.births}
+        row |= {"daughters": [daughter.hex() for daughter in seen.daughters]} | seen.efforts
         with open(self.kept, "a", encoding="utf-8") as file:
             file.write(json.dumps(row) + "\n")
 
@@ -165,7 +165,8 @@ def read_kept(path: Optional[pathlib.Path]) -> dict[tuple, Seen]:
     """The results in a file, if it is there. A last line that was cut off is taken out of it."""
     if path is None or not path.exists():
         return {}
-    data, known = path.read_bytes(), {}
+    data = path.read_bytes()
+    known: dict[tuple, Seen] = {}
     whole = data[: data.rfind(b"\n") + 1]
     for number, line in enumerate(whole.splitlines(), 1):
         try:

@@ -127,7 +127,7 @@ def table_of(named: dict[str, bytes], bench: alone.Bench) -> pandas.DataFrame:
         fate = found[code]
         daughter = fate.way[1] if fate.kind == "another" else None
         row = {"name": name, "size": len(code), "fate": fate.kind, "births": fate.seen.births, **fate.seen.efforts}
-        row |= {"daughter": names.get(daughter), "daughter_code": daughter and daughter.hex(), "steps": len(fate.way) - 1}
+        row |= {"daughter": daughter and names.get(daughter), "daughter_code": daughter and daughter.hex(), "steps": len(fate.way) - 1}
         rows.append(row | {"ends": fate.ends, "fertile": fate.is_fertile, "said": f"{bench.said()}: {said_of(fate, names)}"})
     columns = ["name", "size", "fate", "births", *files.EFFORTS, "daughter", "daughter_code", "steps", "ends", "fertile", "said"]
     return pandas.DataFrame(rows, columns=columns).astype({effort: "Int64" for effort in files.EFFORTS})

@@ -22,7 +22,7 @@ import sys
 import numpy
 import pandas
 
-from . import alone, assay, files, mutants, program, soup, soup_from, sweep
+from . import alone, files, mutants, program, soup, soup_from, sweep
 from .refusal import Refused
 
 DRAWS = 10000
@@ -54,7 +54,10 @@ def named(words: list[str]) -> dict[str, bytes]:
     """The codes of the genotypes that the words of `--put` name, by name."""
     found: dict[str, bytes] = {}
     for word in words:
-        path, name = PUT.fullmatch(word).group("file", "name")
+        found_in = PUT.fullmatch(word)
+        if found_in is None:
+            raise Refused(f"--put {word}: FILE:NAME was expected")
+        path, name = found_in.group("file", "name")
         if name is not None and pathlib.Path(word).exists():
             path, name = word, None
         label, code = mutants.code_of(path, name)
@@ -110,7 +113,8 @@ def interval(values: list[float]) -> tuple[float, float, float]:
     if not values:
         return math.nan, math.nan, math.nan
     means = numpy.random.default_rng(0).choice(values, (DRAWS, len(values))).mean(axis=1)
-    return float(numpy.mean(values)), *map(float, numpy.percentile(means, [2.5, 97.5]))
+    low, high = numpy.percentile(means, [2.5, 97.5])
+    return float(numpy.mean(values)), float(low), float(high)
 
 
 def summary(tables: list[pandas.DataFrame], names: list[str], each: int) -> pandas.DataFrame:

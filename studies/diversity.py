@@ -5,20 +5,21 @@
 Columns: quantum; living (creatures); richness (genotypes that live); shannon (natural logarithm, in nats); simpson (1 minus the sum
 of squared shares). They are `specnumber`, `diversity(x, "shannon")` and `diversity(x, "simpson")` of R's vegan.
 """
+import argparse
 import math
 import sys
 
 import pandas
 from skbio.diversity import alpha
 
-from . import frames
+from . import files, frames
 
 
-def add_arguments(parser):
+def add_arguments(parser: argparse.ArgumentParser) -> None:
     frames.add_hold(parser)
 
 
-def diversity(worlds):
+def diversity(worlds: list[files.World]) -> pandas.DataFrame:
     """The table of diversity."""
     rows = []
     for world in worlds:
@@ -28,5 +29,5 @@ def diversity(worlds):
     return pandas.DataFrame(rows, columns=["quantum", "living", "richness", "shannon", "simpson"])
 
 
-def run(args):
+def run(args: argparse.Namespace) -> None:
     diversity(frames.worlds_of(args)).to_csv(sys.stdout, index=False)

@@ -10,7 +10,7 @@ import hashlib
 import mmap
 import pathlib
 import string
-from typing import NamedTuple, Optional
+from typing import Any, Iterator, NamedTuple, Optional
 
 import numpy
 import pandas
@@ -28,10 +28,13 @@ CREATURE = numpy.dtype(
     + [("ip", ">u4"), ("stack", ">i4", 10), ("sp", ">u4"), ("flag", "u1")]
     + [(count, ">u8") for count in ("errors", "genotype", "ran", "bred")]
 )
+NUMBERS = [name for name in CREATURE.names if name != "stack"]  # the columns of one number each
 EFFORTS = ["first_run", "first_moved", "second_run", "second_moved"]
+Image = bytes | mmap.mmap | memoryview
+Parts = tuple[list[dict[str, Any]], list[dict[str, Any]]]  # the genotypes and the saved genotypes of a world, a row each
 
 
-def name_of(size, rank):
+def name_of(size: int, rank: int) -> str:
     """The text of a genotype's name: its size, and letters for its rank among the genotypes of that size."""
     letters, width = "", 3
     while rank >= 26**width:
@@ -42,11 +45,11 @@ def name_of(size, rank):
     return f"{size:04d}{letters}"
 
 
-def number(data, at, width):
+def number(data: Image, at: int, width: int) -> int:
     return int.from_bytes(data[at : at + width], "big")
 
 
-def efforts_at(data, at):
+def efforts_at(data: Image, at: int) -> dict[str, Optional[int]]:
     """The first and second effort as a dictionary; None stands where there was no such daughter. ValueError where cells were moved
     by no instruction."""
     numbers = [number(data, at + 8 * k, 8) for k in range(4)]
@@ -56,7 +59,7 @@ def efforts_at(data, at):
     return dict(zip(EFFORTS, kept))
 
 
-def code_at(data, at, size):
+def code_at(data: Image, at: int, size: int) -> bytes:
     """The code of so many instructions, or ValueError where there is none."""
     code = bytes(data[at : at + size])
     if not 1 <= size <= MOST_SIZE or len(code) < size or max(code) > 31:
@@ -68,7 +71,7 @@ class World:
     """The world that a frame holds: "A world's bytes" of docs/FORMATS.md, part by part. The genotypes are read when first asked for.
     `what` says which frame it is, for a refusal."""
 
-    def __init__(self, state, what="frame"):
+    def __init__(self, state: Image, what: str = "frame"):
         self.state, self.what = state, what
         size = number(state, 0, 4)
         self.cells = numpy.frombuffer(state, numpy.uint8, size, 4)
@@ -82,18 +85,18 @@ class World:
         self.genotypes_at = at + 8 * living
 
     @functools.cached_property
-    def creatures(self):
+    def creatures(self) -> pandas.DataFrame:
         """The living in the order of their turns, a row each; `genotype` is a number, counted from 0 by first birth."""
-        columns = {name: self.records[name].astype("int64") for name in CREATURE.names if name != "stack"}
+        columns = {name: self.records[name].astype("int64") for name in NUMBERS}
         return pandas.DataFrame(columns)
 
     @property
-    def stacks(self):
+    def stacks(self) -> numpy.ndarray:
         """The ten words of the stack of each of the living."""
         return self.records["stack"].astype("int64")
 
     @functools.cached_property
-    def parts(self):
+    def parts(self) -> Parts:
         """The genotypes and the saved genotypes, as two lists of rows. They are refused where they are those of no world."""
         try:
             parts = self.read_parts()
@@ -103,11 +106,12 @@ class World:
             raise Refused(f"{self.what} is damaged")
         return parts
 
-    def read_parts(self):
+    def read_parts(self) -> Parts:
         """The parts as they stand there, or ValueError where something else stands there."""
         state, at = self.state, self.genotypes_at
         count, at = number(state, at, 8), at + 8
-        genotypes, savings, ranks = [], [], {}
+        genotypes, savings = [], []
+        ranks: dict[int, int] = {}
         for index in range(count):
             size = number(state, at, 4)
             code, at = code_at(state, at + 4, size), at + 4 + size
@@ -127,7 +131,7 @@ class World:
         return genotypes, savings
 
     @functools.cached_property
-    def genotypes(self):
+    def genotypes(self) -> pandas.DataFrame:
         """Every genotype that ever lived, in the order of first birth: name, size, parent's number, first quantum, total, efforts,
         code. An effort is in instructions run and cells moved, and is missing where there was no such daughter."""
         columns = ["genotype", "name", "size", "parent", "first_quantum", "total", *EFFORTS, "code"]
@@ -135,13 +139,13 @@ class World:
         return table.astype({column: "Int64" for column in ["parent", *EFFORTS]})
 
     @functools.cached_property
-    def savings(self):
+    def savings(self) -> pandas.DataFrame:
         """The saved genotypes in the order of saving: number, quantum, and the efforts at that time."""
         table = pandas.DataFrame(self.parts[1], columns=["genotype", "saved", *EFFORTS])
         return table.astype({column: "Int64" for column in EFFORTS})
 
     @functools.cached_property
-    def owners(self):
+    def owners(self) -> numpy.ndarray:
         """The place in `creatures` of each cell's owner: k for its own block, -2 - k for its daughter block, -1 for a free cell."""
         owners = numpy.full(len(self.cells), -1, "int64")
         for k, (at, size, daughter_at, daughter_size) in enumerate(
@@ -152,9 +156,9 @@ class World:
         return owners
 
 
-def has_sound_creatures(world):
+def has_sound_creatures(world: World) -> bool:
     """Whether the cells, the counts, the living and the reaper queue of a world are in the ranges of "A world's bytes"."""
-    rows = {name: world.records[name].astype("uint64") for name in CREATURE.names if name != "stack"}
+    rows = {name: world.records[name].astype("uint64") for name in NUMBERS}
     limit, size, ids = 2**40 + 10000 * world.quanta, len(world.cells), set(rows["id"].tolist())
     ranges = {"id": (1, world.next_id - 1), "ip": (0, size - 1), "sp": (0, 9), "size": (1, MOST_SIZE), "daughter_size": (0, MOST_SIZE)}
     ranges |= {"genotype": (0, number(world.state, world.genotypes_at, 8) - 1)}
@@ -176,7 +180,7 @@ def has_sound_creatures(world):
     return owned.max() == 1
 
 
-def are_sound(genotypes, savings, world):
+def are_sound(genotypes: list[dict[str, Any]], savings: list[dict[str, Any]], world: World) -> bool:
     """Whether the genotypes and the saved genotypes of a world are in the ranges of "A world's bytes". Only the settings could tell
     whether those are saved that `save_at` individuals had: here no other genotype had as many as one that is saved."""
     limit, saved = 2**40 + 10000 * world.quanta, {row["genotype"] for row in savings}
@@ -199,23 +203,23 @@ class Saved(NamedTuple):
     size: int
     quantum: int
     parent: Optional[str]
-    efforts: dict
+    efforts: dict[str, Optional[int]]
     code: bytes
 
 
-def image_of(path):
+def image_of(path: str | pathlib.Path) -> Image:
     """The bytes of a file, mapped where it has any."""
     with open(path, "rb") as file:
         empty = pathlib.Path(path).stat().st_size == 0
         return b"" if empty else mmap.mmap(file.fileno(), 0, access=mmap.ACCESS_READ)
 
 
-def is_fresh(image, title):
+def is_fresh(image: Image, title: bytes) -> bool:
     """Whether nothing was kept in the file yet."""
     return len(image) < HEADER or image[0] == 0 or (image[:1] != title[:1] and image[1:12] == title[1:])
 
 
-def parts_of(image, what, top_bit=False):
+def parts_of(image: Image, what: str, top_bit: bool = False) -> Iterator[tuple[int, int, bool]]:
     """The parts behind open gates, each as the places of its content and whether its length has the top bit; their digests hold.
     The first damaged part is refused: `what` says what it is."""
     gate, count = HEADER - 1, 0
@@ -230,12 +234,12 @@ def parts_of(image, what, top_bit=False):
         count += 1
 
 
-def check_setup(image, digest, what):
+def check_setup(image: Image, digest: Optional[bytes], what: str) -> None:
     if digest is not None and image[12:44] != digest:
         raise Refused(f"{what} belongs to another setup")
 
 
-def kind_of(path):
+def kind_of(path: str | pathlib.Path) -> str:
     """`bank` or `hold`, by the title that a file begins with."""
     with open(path, "rb") as file:
         title = file.read(12)
@@ -244,7 +248,7 @@ def kind_of(path):
     return "bank" if title[1:] == BANK[1:] else "hold"
 
 
-def setup_of(path):
+def setup_of(path: str | pathlib.Path) -> bytes:
     """The digest of the setup that a file was made for."""
     image = image_of(path)
     if len(image) < HEADER or image[:12] not in (BANK, HOLD):
@@ -252,12 +256,12 @@ def setup_of(path):
     return bytes(image[12:44])
 
 
-def read_hold(path, digest=None):
+def read_hold(path: str | pathlib.Path, digest: Optional[bytes] = None) -> list[World]:
     """The worlds of a file of checkpoints, in order. A digest of a setup, where one is given, must be the file's."""
     return worlds_in(image_of(path), digest, str(path))
 
 
-def worlds_in(image, digest=None, what="tierra.hold"):
+def worlds_in(image: Image, digest: Optional[bytes] = None, what: str = "tierra.hold") -> list[World]:
     """The worlds in the bytes of a file of checkpoints. They are refused as `hold` refuses them: see "The file of checkpoints"."""
     if is_fresh(image, HOLD):
         return []
@@ -277,12 +281,12 @@ def worlds_in(image, digest=None, what="tierra.hold"):
     return worlds
 
 
-def read_bank(path, digest=None):
+def read_bank(path: str | pathlib.Path, digest: Optional[bytes] = None) -> list[Saved]:
     """The saved genotypes of a genebank, in order. A digest of a setup, where one is given, must be the file's."""
     return saved_in(image_of(path), digest, str(path))
 
 
-def saved_in(image, digest=None, what="tierra.bank"):
+def saved_in(image: Image, digest: Optional[bytes] = None, what: str = "tierra.bank") -> list[Saved]:
     """The saved genotypes in the bytes of a genebank. They are refused as `bank` refuses them: see "The genebank's file"."""
     if is_fresh(image, BANK):
         return []
@@ -298,7 +302,7 @@ def saved_in(image, digest=None, what="tierra.bank"):
     return saved
 
 
-def group_in(payload, form_two):
+def group_in(payload: Image, form_two: bool) -> list[Saved]:
     """The saved genotypes of a group's payload, or ValueError where it has other bytes than a group."""
     quantum, count, at, saved = number(payload, 0, 8), number(payload, 8, 4), 12, []
     for _ in range(count):

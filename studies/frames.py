@@ -14,6 +14,7 @@
 
 The file's layout is in docs/FORMATS.md, "A world's bytes". A file that `hold` would refuse is refused.
 """
+import argparse
 import pathlib
 
 import pandas
@@ -22,13 +23,13 @@ from . import files, soup
 from .refusal import Refused
 
 
-def add_hold(parser):
+def add_hold(parser: argparse.ArgumentParser) -> None:
     """The words of every verb that reads checkpoints."""
     parser.add_argument("hold", help="a file of checkpoints, tierra.hold")
     parser.add_argument("--soup", help="its soup file; without it, the file may be of any setup")
 
 
-def worlds_of(args):
+def worlds_of(args: argparse.Namespace) -> list[files.World]:
     """The worlds of the file that the words name; a file with none is refused."""
     worlds = files.read_hold(args.hold, soup.digest_of(args.soup))
     if not worlds:
@@ -36,12 +37,12 @@ def worlds_of(args):
     return worlds
 
 
-def add_arguments(parser):
+def add_arguments(parser: argparse.ArgumentParser) -> None:
     add_hold(parser)
     parser.add_argument("--into", default=".", type=pathlib.Path, help="the folder of the tables (default this one)")
 
 
-def counts(worlds):
+def counts(worlds: list[files.World]) -> pandas.DataFrame:
     """The counts of each world."""
     rows = [
         {
@@ -53,7 +54,7 @@ def counts(worlds):
     return pandas.DataFrame(rows)
 
 
-def living(worlds):
+def living(worlds: list[files.World]) -> pandas.DataFrame:
     """How many of each genotype live in each world, by the genotypes' numbers."""
     names = worlds[-1].genotypes
     tables = []
@@ -66,7 +67,7 @@ def living(worlds):
     )
 
 
-def creatures(worlds):
+def creatures(worlds: list[files.World]) -> pandas.DataFrame:
     """Every creature of each world, with the name of its genotype and the efforts of its genotype's parent."""
     tables = []
     for world in worlds:
@@ -81,7 +82,7 @@ def creatures(worlds):
     return pandas.concat(tables, ignore_index=True)
 
 
-def genotypes(world):
+def genotypes(world: files.World) -> pandas.DataFrame:
     """Every genotype that ever lived in a world, with its parent's name, the quantum that saved it, and its code in digits."""
     table = world.genotypes.copy()
     table["parent"] = table.parent.map(table.name, na_action="ignore")
@@ -90,14 +91,14 @@ def genotypes(world):
     return table
 
 
-def tables(worlds):
+def tables(worlds: list[files.World]) -> dict[str, pandas.DataFrame]:
     """The four tables by their names."""
     return {
         "counts": counts(worlds), "living": living(worlds), "creatures": creatures(worlds), "genotypes": genotypes(worlds[-1]),
     }  # fmt: skip
 
 
-def run(args):
+def run(args: argparse.Namespace) -> None:
     made = tables(worlds_of(args))
     args.into.mkdir(parents=True, exist_ok=True)
     for name, table in made.items():

@@ -8,9 +8,11 @@
 Each row begins with the folder's name, the seed and every setting in which a folder differs from the defaults.
 A folder that is not finished is refused: the table would lack a run.
 """
+import argparse
 import json
 import pathlib
 import sys
+from typing import Any
 
 import pandas
 
@@ -20,12 +22,12 @@ from .refusal import Refused
 COUNTS = ["quantum", "living", "births", "deaths"]
 
 
-def add_arguments(parser):
+def add_arguments(parser: argparse.ArgumentParser) -> None:
     parser.add_argument("what", choices=["genotypes", "counts"])
     parser.add_argument("folders", nargs="+", type=pathlib.Path)
 
 
-def settings_of(folder):
+def settings_of(folder: pathlib.Path) -> dict[str, Any]:
     """The settings of a finished run, whose soup file is the one that its notes have the digest of."""
     try:
         notes = json.loads((folder / "notes.json").read_text())
@@ -37,7 +39,7 @@ def settings_of(folder):
     return soup.settings(document)
 
 
-def genotypes_of(folder):
+def genotypes_of(folder: pathlib.Path) -> pandas.DataFrame:
     """The saved genotypes of a run."""
     if not (folder / "tierra.bank").exists():
         raise Refused(f"{folder} has no genebank; frames gives the genotypes of checkpoints")
@@ -49,7 +51,7 @@ def genotypes_of(folder):
     return table.astype({column: "Int64" for column in files.EFFORTS})
 
 
-def counts_of(folder):
+def counts_of(folder: pathlib.Path) -> pandas.DataFrame:
     """The counts of a run over time."""
     if (folder / "curve.txt").exists():
         return printed.curve_in((folder / "curve.txt").read_text())
@@ -60,11 +62,11 @@ def counts_of(folder):
         rows = [(world.quanta, len(world.records), world.births, world.deaths) for world in worlds]
     else:
         counts, _ = printed.report_in((folder / "run.txt").read_text())
-        rows = [tuple(counts[key] for key in ("quanta", "living", "births", "deaths"))]
+        rows = [(counts["quanta"], counts["living"], counts["births"], counts["deaths"])]
     return pandas.DataFrame(rows, columns=COUNTS)
 
 
-def gathered(what, folders):
+def gathered(what: str, folders: list[pathlib.Path]) -> pandas.DataFrame:
     """The table of all runs."""
     settings = {folder: settings_of(folder) for folder in folders}
     shown = [key for key, default in soup.SETTINGS.items() if key != "seed" and any(row[key] != default for row in settings.values())]
@@ -77,5 +79,5 @@ def gathered(what, folders):
     return pandas.concat(tables, ignore_index=True)
 
 
-def run(args):
+def run(args: argparse.Namespace) -> None:
     gathered(args.what, args.folders).to_csv(sys.stdout, index=False)

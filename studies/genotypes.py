@@ -10,6 +10,8 @@ of a record is the name, then the quantum that saved the genotype, or of its fir
 A .tie has Tierra's names of instructions, and its header as far as it is known here: the genotype, its parent, and what its first two
 daughters cost. `zuldokan listing` reads FASTA and .tie back.
 """
+import argparse
+import pathlib
 import sys
 
 import pandas
@@ -27,14 +29,14 @@ TIERRA = (
 ).split()
 
 
-def add_arguments(parser):
+def add_arguments(parser: argparse.ArgumentParser) -> None:
     parser.add_argument("file", help="a genebank or a file of checkpoints")
     parser.add_argument("--as", dest="kind", choices=["fasta", "tie", "listing"], default="fasta")
     parser.add_argument("--only", nargs="+", metavar="NAME", help="these genotypes; .tie and listing take one")
     parser.add_argument("--soup", help="its soup file; without it, the file may be of any setup")
 
 
-def all_in(path, digest=None):
+def all_in(path: str | pathlib.Path, digest: bytes | None = None) -> dict[str, files.Saved]:
     """The genotypes of a file, by name."""
     if files.kind_of(path) == "bank":
         return {one.name: one for one in files.read_bank(path, digest)}
@@ -44,7 +46,7 @@ def all_in(path, digest=None):
     return all_of(worlds[-1])
 
 
-def all_of(world):
+def all_of(world: files.World) -> dict[str, files.Saved]:
     """The genotypes of a world, by name. `quantum` is that of the first individual."""
     table, found = world.genotypes, {}
     for row in table.itertuples():
@@ -54,7 +56,7 @@ def all_of(world):
     return found
 
 
-def chosen(found, names, path):
+def chosen(found: dict[str, files.Saved], names: list[str] | None, path: str | pathlib.Path) -> list[files.Saved]:
     """The genotypes of these names, or all."""
     for name in names or []:
         if name not in found:
@@ -62,12 +64,12 @@ def chosen(found, names, path):
     return [found[name] for name in names or found]
 
 
-def letters(code):
+def letters(code: bytes) -> str:
     """The letters of a code."""
     return "".join(ALPHABET[op] for op in code)
 
 
-def fasta(one):
+def fasta(one: files.Saved) -> str:
     """The record of a genotype."""
     efforts = " ".join(f"{key}={value}" for key, value in one.efforts.items() if value is not None)
     text = letters(one.code)
@@ -75,7 +77,7 @@ def fasta(one):
     return "\n".join([f">{one.name} quantum={one.quantum} parent={one.parent or 'none'} {efforts}".rstrip(), *lines]) + "\n"
 
 
-def tie(one):
+def tie(one: files.Saved) -> str:
     """The .tie file of a genotype."""
     lines = ["", "format: 3  bits: 0", f"genotype: {one.name}  parent genotype: {one.parent or '0666god'}"]
     for title, which in (("1st_daughter", "first"), ("2nd_daughter", "second")):
@@ -86,12 +88,12 @@ def tie(one):
     return "\n".join(lines) + "\n"
 
 
-def listing(one):
+def listing(one: files.Saved) -> str:
     """The listing of a genotype."""
     return f"; {one.name}, quantum {one.quantum}, parent {one.parent or 'none'}\n" + soup.listing_of_code(one.code)
 
 
-def run(args):
+def run(args: argparse.Namespace) -> None:
     found = chosen(all_in(args.file, soup.digest_of(args.soup)), args.only, args.file)
     if args.kind != "fasta" and len(found) != 1:
         raise Refused(f"--as {args.kind} takes one genotype: name it with --only")

@@ -48,7 +48,8 @@ def residents(world: files.World) -> list[tuple[int, bytes, None]]:
 
 def free_places(placed: list[tuple[int, bytes, None]], size: int, length: int) -> list[int]:
     """Places for blocks of this length in free cells, side by side in each gap."""
-    places, end = [], 0
+    places: list[int] = []
+    end = 0
     for at, code, _ in [*sorted(placed), (size, b"", None)]:
         places += range(end, at - length + 1, length)
         end = at + len(code)

@@ -75,14 +75,13 @@ def changes_of(mother: bytes, daughter: bytes, pairs: list[Pair]) -> list[Change
     """The mutations between a mother and her daughter, in the order of the mother's places."""
     changes, at = [], 0
     for place, beside in pairs:
+        before, after = (None if place is None else mother[place]), (None if beside is None else daughter[beside])
         if place is None:
-            changes.append(Change("inserted", at, None, daughter[beside]))
+            changes.append(Change("inserted", at, before, after))
             continue
         at = place + 1
-        if beside is None:
-            changes.append(Change("lost", place, mother[place], None))
-        elif mother[place] != daughter[beside]:
-            changes.append(Change("changed", place, mother[place], daughter[beside]))
+        if before != after:
+            changes.append(Change("lost" if beside is None else "changed", place, before, after))
     return changes
 
 
@@ -111,7 +110,7 @@ def short(change: Change) -> str:
 
 def shorts(changes: list[Change]) -> str:
     """Changes as the table has them; what was lost at several places in a row stands together."""
-    texts = []
+    texts: list[str] = []
     for _, group in itertools.groupby(enumerate(changes), lambda one: one[1].kind == "lost" and one[1].place - one[0]):
         some = [change for _, change in group]
         together = some[0].kind == "lost" and len(some) > 1
@@ -125,7 +124,7 @@ def table_of(steps: list[Step]) -> pandas.DataFrame:
     for number, (one, _, changes) in enumerate(steps):
         counts = {kind: sum(change.kind == kind for change in changes) for kind in KINDS}
         row = {"step": number, "name": one.name, "size": one.size, "parent": one.parent, "quantum": one.quantum}
-        rows.append({**row, **counts, "changes": shorts(changes)})
+        rows.append(row | counts | {"changes": shorts(changes)})
     return pandas.DataFrame(rows)
 
 
@@ -142,7 +141,8 @@ def changes_table(steps: list[Step]) -> pandas.DataFrame:
 def beside(mother: files.Saved, step: Step) -> str:
     """A mother and her daughter side by side, where they differ, with some instructions around."""
     daughter = step.one
-    rows, shown = [], set()
+    rows: list[str] = []
+    shown: set[int] = set()
     for number, (place, other) in enumerate(step.pairs):
         ops = (None if place is None else mother.code[place], None if other is None else daughter.code[other])
         if ops[0] != ops[1]:

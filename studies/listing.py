@@ -8,6 +8,7 @@ names of Tierra's releases in any case and with or without underscores: nop1, no
 pushA, pushax; movDC, movdc, mov_cd; movii, mov_iab; adro; and so on. What follows a semicolon is a comment. Any other word is refused
 with its line, and so is a second track; the heading `xwr` below `track 0: prot` is dropped. FASTA has the alphabet of `zuldokan genotypes`.
 """
+import argparse
 import re
 import sys
 
@@ -15,7 +16,7 @@ from . import genotypes, soup
 from .refusal import Refused
 
 
-def spellings():
+def spellings() -> dict[str, str]:
     """Our name of each name that Tierra's releases have, in lower case and without underscores."""
     ours = {}
     for theirs, name in zip(genotypes.TIERRA, soup.INSTRUCTIONS):
@@ -27,15 +28,16 @@ def spellings():
 SPELLINGS = spellings()
 
 
-def add_arguments(parser):
+def add_arguments(parser: argparse.ArgumentParser) -> None:
     parser.add_argument("--only", metavar="NAME", help="the record of FASTA to take, if there are several")
 
 
-def of_tie(text):
+def of_tie(text: str) -> bytes:
     """The code of a .tie file's text."""
     lines = text.splitlines()
     heads = [number for number, line in enumerate(lines) if line.strip() == "CODE" or line.startswith("CODE ")]
-    code, words = bytearray(), []
+    code = bytearray()
+    words: list[str] = []
     for number, line in enumerate(lines[heads[-1] + 1 if heads else 0 :], (heads[-1] + 2 if heads else 1)):
         before, words = words, line.partition(";")[0].split()
         if words[:1] == ["track"]:
@@ -54,17 +56,19 @@ def of_tie(text):
     return bytes(code)
 
 
-def of_fasta(text):
+def of_fasta(text: str) -> dict[str, bytes]:
     """The code of each record of FASTA, by name."""
-    found, name = {}, None
+    found: dict[str, bytes] = {}
+    name: str | None = None
     for number, line in enumerate(text.splitlines(), 1):
         if line.startswith(">"):
             name = (line[1:].split() or [""])[0]
             if name in found:
                 raise Refused(f"line {number}: {name} comes twice")
             found[name] = b""
-        elif line.strip() and name is None:
-            raise Refused(f"line {number}: no head of a record before it")
+        elif name is None:
+            if line.strip():
+                raise Refused(f"line {number}: no head of a record before it")
         else:
             for letter in line.strip():
                 if letter not in genotypes.ALPHABET:
@@ -76,7 +80,7 @@ def of_fasta(text):
     return found
 
 
-def code_of(text, only=None):
+def code_of(text: str, only: str | None = None) -> bytes:
     """The code of a .tie file's text, or of a record of FASTA."""
     if not text.lstrip().startswith(">"):
         return of_tie(text)
@@ -88,5 +92,5 @@ def code_of(text, only=None):
     return found[only] if only else next(iter(found.values()))
 
 
-def run(args):
+def run(args: argparse.Namespace) -> None:
     sys.stdout.write(soup.listing_of_code(code_of(sys.stdin.read(), args.only), words=1))

@@ -2,6 +2,8 @@
 import argparse
 import importlib
 import sys
+import types
+from typing import NoReturn
 
 from .refusal import Refused
 
@@ -31,11 +33,11 @@ VERBS = {
 class Parser(argparse.ArgumentParser):
     """A parser whose refusals are one line."""
 
-    def error(self, message):
+    def error(self, message: str) -> NoReturn:
         raise Refused(message)
 
 
-def parser_of(verb, module):
+def parser_of(verb: str, module: types.ModuleType) -> Parser:
     """The parser of a verb's words; its help is the module's docstring."""
     parser = Parser(
         prog=f"zuldokan {verb}", description=module.__doc__, formatter_class=argparse.RawDescriptionHelpFormatter
@@ -44,13 +46,13 @@ def parser_of(verb, module):
     return parser
 
 
-def usage():
+def usage() -> str:
     width = max(map(len, VERBS))
     lines = [f"  {verb:{width}}  {what}" for verb, what in VERBS.items()]
     return "usage: zuldokan VERB ..\n\n" + "\n".join(lines) + "\n\nzuldokan VERB --help tells the rest."
 
 
-def main(words=None):
+def main(words: list[str] | None = None) -> int:
     """Does what the words ask for, and gives the exit status: 0, or 2 with one line where they or an input are refused."""
     words = sys.argv[1:] if words is None else words
     if not words or words[0] in ("-h", "--help"):

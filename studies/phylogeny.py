@@ -20,6 +20,7 @@ column missing_parent has their names. To have all: `save_at = 1` in the soup fi
 Newick: a line for each root; the length of a branch is the time from a parent's origin_time to its own. Every genotype is a node with
 its name, also one that has descendants: ete3 calls this format 1, and reads it by `ete3.Tree(line, format=1)`.
 """
+import argparse
 import collections
 import pathlib
 import sys
@@ -32,14 +33,14 @@ from .refusal import Refused
 COLUMNS = ["id", "ancestor_list", "origin_time", "destruction_time", "taxon_label", "sequence", "size", *files.EFFORTS]
 
 
-def add_arguments(parser):
+def add_arguments(parser: argparse.ArgumentParser) -> None:
     parser.add_argument("file", help="a genebank or a file of checkpoints")
     parser.add_argument("--soup", help="its soup file; without it, the file may be of any setup")
     parser.add_argument("--newick", type=pathlib.Path, help="write the tree to this file too")
     parser.add_argument("--living", action="store_true", help="only the genotypes that live at the last checkpoint, and their ancestors")
 
 
-def of_worlds(worlds):
+def of_worlds(worlds: list[files.World]) -> pandas.DataFrame:
     """The table of the genotypes of a run's checkpoints."""
     last = worlds[-1]
     times = [world.quanta for world in worlds]
@@ -48,20 +49,18 @@ def of_worlds(worlds):
         seen.update(dict.fromkeys(map(int, world.records["genotype"]), place))
     rows, living = [], collections.Counter(map(int, last.records["genotype"]))
     for row in last.genotypes.itertuples():
-        place, later = seen.get(row.genotype), [time for time in times if time >= row.first_quantum]
-        if place is None:
-            gone = later[0] if later else None
-        else:
-            gone = times[place + 1] if place + 1 < len(times) else None
+        last_place = seen.get(row.genotype)
+        later = [time for time in times if time >= row.first_quantum] if last_place is None else times[last_place + 1 :]
+        gone = later[0] if later else None
         ancestor = "[NONE]" if pandas.isna(row.parent) else f"[{row.parent}]"
         efforts = [getattr(row, effort) for effort in files.EFFORTS]
-        shown = None if place is None else times[place]
+        shown = None if last_place is None else times[last_place]
         begun = [row.genotype, ancestor, row.first_quantum, gone, row.name, row.code.hex(), row.size]
         rows.append([*begun, *efforts, shown, row.total, living[row.genotype]])
     return typed(pandas.DataFrame(rows, columns=[*COLUMNS, "last_seen", "abundance", "living"]))
 
 
-def of_bank(saved):
+def of_bank(saved: list[files.Saved]) -> pandas.DataFrame:
     """The table of a genebank's genotypes."""
     ids = {one.name: place for place, one in enumerate(saved)}
     times = [one.quantum for one in saved]
@@ -78,17 +77,17 @@ def of_bank(saved):
     return typed(pandas.DataFrame(rows, columns=[*COLUMNS, "missing_parent"]))
 
 
-def typed(table):
+def typed(table: pandas.DataFrame) -> pandas.DataFrame:
     numbers = ["origin_time", "destruction_time", *files.EFFORTS, "last_seen"]
     return table.astype({column: "Int64" for column in numbers if column in table})
 
 
-def parents_of(table):
+def parents_of(table: pandas.DataFrame) -> dict[int, int | None]:
     """The parent's id of each id, or None."""
     return {row.id: None if row.ancestor_list == "[NONE]" else int(row.ancestor_list[1:-1]) for row in table.itertuples()}
 
 
-def of_the_living(table):
+def of_the_living(table: pandas.DataFrame) -> pandas.DataFrame:
     """The rows of what lives at the last checkpoint, and of its ancestors."""
     parents, kept = parents_of(table), set()
     for one in table.id[table.destruction_time.isna()]:
@@ -98,13 +97,15 @@ def of_the_living(table):
     return table[table.id.isin(kept)].reset_index(drop=True)
 
 
-def newick(table):
+def newick(table: pandas.DataFrame) -> str:
     """The trees of a table, a line for each root."""
-    parents, daughters = parents_of(table), {}
+    parents = parents_of(table)
+    daughters: dict[int | None, list[int]] = {}
     for one, parent in parents.items():
         daughters.setdefault(parent, []).append(one)
     times, labels = dict(zip(table.id, table.origin_time)), dict(zip(table.id, table.taxon_label))
-    texts, waiting = {}, [(root, False) for root in daughters.get(None, [])]
+    texts: dict[int, str] = {}
+    waiting = [(root, False) for root in daughters.get(None, [])]
     while waiting:
         one, is_ready = waiting.pop()
         if not is_ready:
@@ -117,7 +118,7 @@ def newick(table):
     return "".join(f"{texts[root]};\n" for root in daughters.get(None, []))
 
 
-def table_of(path, digest=None):
+def table_of(path: str | pathlib.Path, digest: bytes | None = None) -> pandas.DataFrame:
     """The table of a genebank or of a file of checkpoints."""
     if files.kind_of(path) == "hold":
         worlds = files.read_hold(path, digest)
@@ -127,7 +128,7 @@ def table_of(path, digest=None):
     return of_bank(files.read_bank(path, digest))
 
 
-def tell_missing(table):
+def tell_missing(table: pandas.DataFrame) -> None:
     """Names the parents that a genebank lacks on standard error."""
     missing = sorted(set(table.missing_parent.dropna())) if "missing_parent" in table else []
     if missing:
@@ -139,7 +140,7 @@ def tell_missing(table):
         )
 
 
-def run(args):
+def run(args: argparse.Namespace) -> None:
     table = table_of(args.file, soup.digest_of(args.soup))
     if args.living:
         if "last_seen" not in table:

@@ -19,7 +19,9 @@
 `--soup` gives the title the soup file's name and seed. `--roles`, a table of `zuldokan roles`, colours genotypes by what they do.
 The colours are those of Okabe and Ito, which the colour-blind can tell apart.
 """
+import argparse
 import pathlib
+from typing import Any, Callable
 
 import matplotlib
 
@@ -30,10 +32,14 @@ import matplotlib.pyplot as pyplot
 import numpy
 import pandas
 from matplotlib import animation as films
+from matplotlib.axes import Axes
+from matplotlib.figure import Figure
+from matplotlib.image import FigureImage
+from matplotlib.text import Text
 
 from . import abundance as abundances
 from . import diversity as diversities
-from . import frames, phylogeny, roles, soup
+from . import files, frames, phylogeny, roles, soup
 from . import lineage as lineages
 from .refusal import Refused
 
@@ -50,9 +56,10 @@ LINE = {
 SERIES = ["#0072B2", "#E69F00", "#009E73", "#CC79A7", "#56B4E9", "#D55E00", "#F0E442", "#999999"]
 STYLE = {"font.size": 9, "axes.spines.top": False, "axes.spines.right": False, "svg.hashsalt": "zuldokan", "axes.axisbelow": True}
 WIDTH = 300  # cells of a line of the map
+Worlds = list[files.World]
 
 
-def add_arguments(parser):
+def add_arguments(parser: argparse.ArgumentParser) -> None:
     parser.add_argument("kind", choices=KINDS)
     parser.add_argument("hold", help="a file of checkpoints, tierra.hold")
     parser.add_argument("out", type=pathlib.Path, help="the picture: .svg or .png; .gif or .mp4 for an animation")
@@ -64,7 +71,7 @@ def add_arguments(parser):
     parser.add_argument("--pixels", type=int, default=3, help="pixels a cell in a map or animation (default 3)")
 
 
-def title_of(path):
+def title_of(path: str | pathlib.Path | None) -> str:
     """What the title says of the run: the soup file's name and seed, without the zeros that the seed begins with."""
     if path is None:
         return "a run"
@@ -72,7 +79,7 @@ def title_of(path):
     return f"{pathlib.Path(path).name}, seed {seed.lower().lstrip('0') or '0'}"
 
 
-def roles_in(path):
+def roles_in(path: pathlib.Path | None) -> dict[str, str]:
     """The role of each genotype, from a table of `zuldokan roles`."""
     if path is None:
         return {}
@@ -85,7 +92,7 @@ def roles_in(path):
     return dict(zip(table.name, table.role))
 
 
-def axes(title, height=3.8):
+def axes(title: str, height: float = 3.8) -> tuple[Figure, Axes]:
     figure, axis = pyplot.subplots(figsize=(9, height), layout="constrained")
     axis.set_title(title, fontsize=10)
     axis.set_xlabel("thousands of quanta")
@@ -93,39 +100,39 @@ def axes(title, height=3.8):
     return figure, axis
 
 
-def second_axis(axis, label):
+def second_axis(axis: Axes, label: str) -> Axes:
     other = axis.twinx()
     other.spines["right"].set_visible(True)
     other.set_ylabel(label)
     return other
 
 
-def legend(axis, other=None):
+def legend(axis: Axes, other: Axes | None = None) -> None:
     lines = axis.get_legend_handles_labels(), other.get_legend_handles_labels() if other else ([], [])
     place = (1.07 if other else 1.01, 1)
     axis.legend(lines[0][0] + lines[1][0], lines[0][1] + lines[1][1], loc="upper left", bbox_to_anchor=place, frameon=False)
 
 
-def key_beside(axis, colours: dict[str, str]) -> None:
+def key_beside(axis: Axes, colours: dict[str, str]) -> None:
     """A key of colours at the right of a picture."""
     edge = {"edgecolor": "#666666", "linewidth": 0.5}
     key = [matplotlib.patches.Patch(facecolor=colour, label=kind, **edge) for kind, colour in colours.items()]
     axis.legend(handles=key, loc="upper left", bbox_to_anchor=(1.01, 1), frameon=False)
 
 
-def save(figure, path: pathlib.Path) -> None:
+def save(figure: Figure, path: pathlib.Path) -> None:
     """Writes a figure and forgets it."""
     figure.savefig(path, dpi=100, metadata={"Date": None} if path.suffix == ".svg" else None)
     pyplot.close(figure)
 
 
-def step_of(worlds):
+def step_of(worlds: Worlds) -> str:
     """The quanta between two checkpoints, as a text."""
     steps = numpy.unique(numpy.diff([0, *(world.quanta for world in worlds)]))
     return f"{steps[0]:,} quanta" if len(steps) == 1 else "interval"
 
 
-def population(worlds, title, **_):
+def population(worlds: Worlds, title: str, **_: Any) -> Figure:
     table = frames.counts(worlds)
     flows = table[["births", "deaths"]].diff().fillna(table[["births", "deaths"]])
     figure, axis = axes(f"Living, births and deaths: {title}")
@@ -140,7 +147,7 @@ def population(worlds, title, **_):
     return figure
 
 
-def sizes(worlds, title, named=None, **_):
+def sizes(worlds: Worlds, title: str, named: dict[str, str] | None = None, **_: Any) -> Figure:
     genotypes = frames.genotypes(worlds[-1]).dropna(subset=["saved"])
     figure, axis = axes(f"Sizes of the saved genotypes: {title}")
     kinds = genotypes.name.map(lambda name: (named or {}).get(name, UNSEEN if named else "saved genotype"))
@@ -155,7 +162,7 @@ def sizes(worlds, title, named=None, **_):
     return figure
 
 
-def abundance(worlds, title, most=12, **_):
+def abundance(worlds: Worlds, title: str, most: int = 12, **_: Any) -> Figure:
     table = abundances.with_size_classes(worlds, most)
     figure, axis = axes(f"Living genotypes in Muller order: {title}")
     hatches, classes = ["", "///", "...", "xxx"], 0
@@ -171,7 +178,7 @@ def abundance(worlds, title, most=12, **_):
     return figure
 
 
-def diversity(worlds, title, **_):
+def diversity(worlds: Worlds, title: str, **_: Any) -> Figure:
     table = diversities.diversity(worlds)
     figure, axis = axes(f"Diversity of the living genotypes: {title}")
     axis.plot(table.quantum / 1000, table.richness, color=COLOURS["host"], label="richness")
@@ -185,7 +192,7 @@ def diversity(worlds, title, **_):
     return figure
 
 
-def roles_over_time(worlds, title, named=None, **_):
+def roles_over_time(worlds: Worlds, title: str, named: dict[str, str] | None = None, **_: Any) -> Figure:
     if not named:
         raise Refused("picture roles needs --roles, a table of zuldokan roles")
     living = frames.living(worlds)
@@ -210,7 +217,7 @@ def kinds_of(table: pandas.DataFrame, named: dict[str, str] | None) -> tuple[dic
     return kinds, {kind: SERIES[k % len(SERIES)] for k, kind in enumerate(classes)}
 
 
-def tree(worlds, title, named=None, **_):
+def tree(worlds: Worlds, title: str, named: dict[str, str] | None = None, **_: Any) -> Figure:
     table = phylogeny.of_the_living(phylogeny.of_worlds(worlds))
     parents, end = phylogeny.parents_of(table), worlds[-1].quanta
     numbers = pandas.DataFrame({"genotype": table.id, "parent": pandas.Series([parents[one] for one in table.id], dtype=object)})
@@ -221,8 +228,8 @@ def tree(worlds, title, named=None, **_):
         until = end if pandas.isna(row.destruction_time) else row.destruction_time
         colour = colours[kinds[row.taxon_label]]
         axis.plot([row.origin_time / 1000, until / 1000], [place[row.id]] * 2, color=colour, linewidth=1.2)
-        if parents[row.id] is not None:
-            axis.plot([begun[row.id] / 1000] * 2, [place[parents[row.id]], place[row.id]], color="#BBBBBB", linewidth=0.5, zorder=0)
+        if (parent := parents[row.id]) is not None:
+            axis.plot([begun[row.id] / 1000] * 2, [place[parent], place[row.id]], color="#BBBBBB", linewidth=0.5, zorder=0)
         axis.annotate(row.taxon_label, (until / 1000, place[row.id]), xytext=(2, 0), textcoords="offset points", fontsize=5, va="center")
     axis.set_yticks([])
     axis.set_ylabel("genotypes, each below its parent")
@@ -232,7 +239,7 @@ def tree(worlds, title, named=None, **_):
     return figure
 
 
-def map_of(world, named=None, pixels=3):
+def map_of(world: files.World, named: dict[str, str] | None = None, pixels: int = 3) -> numpy.ndarray:
     """The colours of the soup, line by line, so many pixels a cell."""
     colour = {name: numpy.array([int(text[k : k + 2], 16) for k in (1, 3, 5)], "uint8") for name, text in {**COLOURS, **OTHERS}.items()}
     shown = numpy.where((world.cells != 0)[:, None], colour["free, code of the dead"], colour["free, nop_0"])
@@ -247,9 +254,9 @@ def map_of(world, named=None, pixels=3):
     return numpy.repeat(numpy.repeat(whole.reshape(lines, WIDTH, 3), pixels, 0), pixels, 1)
 
 
-def framed(image, title, named=None):
+def framed(image: numpy.ndarray, title: str, named: dict[str, str] | None = None) -> tuple[Figure, FigureImage, Text]:
     """A figure with an image at its own pixels, a title and a key. Gives the image too, for an animation."""
-    height, width, side, top = *image.shape[:2], 190, 40
+    (height, width), side, top = image.shape[:2], 190, 40
     figure = pyplot.figure(figsize=((width + side) / 100, (height + top) / 100), dpi=100)
     shown = figure.figimage(image, 0, 0)
     text = figure.text(0.01, 1 - 14 / (height + top), title, va="center", fontsize=9)
@@ -261,25 +268,27 @@ def framed(image, title, named=None):
     return figure, shown, text
 
 
-def map_title(world, title):
+def map_title(world: files.World, title: str) -> str:
     return f"The soup after {world.quanta:,} quanta, {WIDTH} cells a line: {title}"
 
 
-def soup_map(worlds, title, named=None, quantum=None, pixels=3, **_):
+def soup_map(
+    worlds: Worlds, title: str, named: dict[str, str] | None = None, quantum: int | None = None, pixels: int = 3, **_: Any
+) -> Figure:
     found = [world for world in worlds if quantum is None or world.quanta == quantum]
     if not found:
         raise Refused(f"there is no checkpoint of quantum {quantum}")
     return framed(map_of(found[-1], named, pixels), map_title(found[-1], title), named)[0]
 
 
-def animation(worlds, title, out, named=None, pixels=3):
+def animation(worlds: Worlds, title: str, out: pathlib.Path, named: dict[str, str] | None = None, pixels: int = 3) -> None:
     """Writes the animation of the map."""
     writer = "pillow" if out.suffix == ".gif" else "ffmpeg"
     if not films.writers.is_available(writer):
         raise Refused(f"{out} needs ffmpeg, which is not installed")
     figure, shown, text = framed(map_of(worlds[0], named, pixels), map_title(worlds[0], title), named)
 
-    def draw(world):
+    def draw(world: files.World) -> None:
         shown.set_data(map_of(world, named, pixels))
         text.set_text(map_title(world, title))
 
@@ -299,7 +308,7 @@ def cells_of(steps: list[lineages.Step]) -> tuple[numpy.ndarray, numpy.ndarray]:
     return cells, new
 
 
-def lineage(worlds, title, of=None, **_):
+def lineage(worlds: Worlds, title: str, of: str | None = None, **_: Any) -> Figure:
     steps = lineages.steps_in(worlds, of)
     cells, new = cells_of(steps)
     shades = numpy.select([cells == -1, new & (cells >= 0), cells == 0, cells == 1], [0, 4, 1, 2], 3)
@@ -316,13 +325,13 @@ def lineage(worlds, title, of=None, **_):
     return figure
 
 
-KINDS = {
+KINDS: dict[str, Callable[..., Any]] = {
     "population": population, "sizes": sizes, "abundance": abundance, "diversity": diversity, "roles": roles_over_time, "tree": tree,
     "lineage": lineage, "map": soup_map, "animation": animation,
 }  # fmt: skip
 
 
-def run(args):
+def run(args: argparse.Namespace) -> None:
     endings = [".gif", ".mp4"] if args.kind == "animation" else [".svg", ".png"]
     if args.out.suffix not in endings:
         raise Refused(f"{args.out} ends with neither {endings[0]} nor {endings[1]}")

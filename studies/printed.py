@@ -13,9 +13,10 @@ CREATURE = re.compile(
 COUNTS = ("quanta", "births", "deaths", "living", "filled", "genotypes", "kept")
 
 
-def report_in(text):
+def report_in(text: str) -> tuple[dict[str, int], dict[str, tuple[int, int]]]:
     """The counts of the first report in a text, and the living genotypes with how many live and how many ever lived."""
-    counts, living = {}, {}
+    counts: dict[str, int] = {}
+    living: dict[str, tuple[int, int]] = {}
     for line in text.splitlines():
         words = line.split()
         if len(words) == 2 and words[0] in COUNTS and len(counts) < len(COUNTS):
@@ -27,7 +28,7 @@ def report_in(text):
     return counts, living
 
 
-def creatures_in(text):
+def creatures_in(text: str) -> pandas.DataFrame:
     """The creatures of a dump, with the columns that the creatures of a frame have, and `name`."""
     rows = [found.groupdict() for found in map(CREATURE.fullmatch, text.splitlines()) if found]
     if not rows:
@@ -45,7 +46,7 @@ def events_in(text: str) -> tuple[list[tuple[int, int]], list[tuple[int, int]]]:
     return births, deaths
 
 
-def curve_in(text):
+def curve_in(text: str) -> pandas.DataFrame:
     """The counts of a curve: quantum, living, births, deaths."""
     rows = [line.split()[1::2] for line in text.splitlines() if line.startswith("at ")]
     if not rows:

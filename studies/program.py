@@ -1,5 +1,6 @@
 """Finds the program and runs it. The program is that of `--program`, or of the variable ZULDOKAN_PROGRAM or TIERRA, or the one that the
 script `tierra` of this repository says it has built, or `tierra` on the PATH."""
+import argparse
 import hashlib
 import os
 import pathlib
@@ -7,6 +8,7 @@ import shutil
 import subprocess
 import sys
 import tempfile
+from typing import IO, Sequence
 
 from .refusal import Refused
 
@@ -16,7 +18,7 @@ MEMORY = "/dev/shm"
 UNPROVED_SPEED = 1860  # quanta a second of the program that `./tierra --unproved` builds
 
 
-def add_argument(parser):
+def add_argument(parser: argparse.ArgumentParser) -> None:
     told = "the program; else the variable ZULDOKAN_PROGRAM or TIERRA, else what ./tierra has built, else tierra on the PATH"
     parser.add_argument("--program", help=told)
 
@@ -51,7 +53,7 @@ def find(named: str | None = None) -> str:
     return os.path.abspath(named)
 
 
-def digest(path):
+def digest(path: str) -> str:
     """The SHA-256 of the program's file, which tells one build from another."""
     return hashlib.sha256(pathlib.Path(path).read_bytes()).hexdigest()
 
@@ -76,14 +78,14 @@ def commit() -> str | None:
     return said.stdout.strip() if said.returncode == 0 else None
 
 
-def scratch(size):
+def scratch(size: int) -> tempfile.TemporaryDirectory[str]:
     """A folder for files of so many bytes that nobody keeps. The program syncs what it writes, so the folder is in memory where there
     is room for ten times as many."""
     has_room = os.access(MEMORY, os.W_OK) and shutil.disk_usage(MEMORY).free > 10 * size
     return tempfile.TemporaryDirectory(dir=MEMORY if has_room else None)
 
 
-def run(path, words, source="", folder=".", out=None):
+def run(path: str, words: Sequence[object], source: str = "", folder: str | pathlib.Path = ".", out: IO[bytes] | None = None) -> str:
     """Runs an action to its end and gives what it prints, or writes that to the open file `out`. What the program refuses is
     refused with the program's own line."""
     answer = subprocess.run(

@@ -13,17 +13,19 @@ names by code: leg, name (in this leg), saved (quantum of this leg), since (quan
 same code was first saved), size, code. A relay that was interrupted goes on when it is started again. A soup file has at most 1 MiB:
 a leg whose living need more is refused.
 """
+import argparse
 import hashlib
 import pathlib
 
 import pandas
+from tomlkit import TOMLDocument
 
 from . import files, program, soup, sweep
 from .progress import Progress
 from .refusal import Refused
 
 
-def add_arguments(parser):
+def add_arguments(parser: argparse.ArgumentParser) -> None:
     parser.add_argument("soup")
     parser.add_argument("--quanta", type=int, required=True, help="quanta of a leg, up to 4,000,000")
     parser.add_argument("--legs", type=int, required=True)
@@ -32,17 +34,17 @@ def add_arguments(parser):
     program.add_argument(parser)
 
 
-def seed_of(seed, leg):
+def seed_of(seed: str, leg: int) -> str:
     """The seed of a leg, in 64 hexadecimal digits: that of isle 1 in this epoch."""
     return hashlib.sha256(bytes.fromhex(seed) + leg.to_bytes(8, "big") + (1).to_bytes(8, "big")).hexdigest()
 
 
-def first_text(document, seed):
+def first_text(document: TOMLDocument, seed: str) -> str:
     """The soup file of leg 1."""
     return sweep.changed(document, {"seed": seed_of(seed, 1)})
 
 
-def next_text(document, seed, leg, world):
+def next_text(document: TOMLDocument, seed: str, leg: int, world: files.World) -> str:
     """The soup file of a later leg: the living of the world before it."""
     if not len(world.records):
         raise Refused(f"nobody lived at the end of leg {leg - 1}")
@@ -58,14 +60,14 @@ def next_text(document, seed, leg, world):
     return text
 
 
-def do(action, words, path, text, folder):
+def do(action: str, words: list[object], path: str, text: str, folder: pathlib.Path) -> None:
     """Runs an action of a leg, unless it is done."""
     told = folder / f"{action}.txt"
     if not told.exists():
         sweep.replace(told, program.run(path, [action, *words], text, folder))
 
 
-def run_leg(folder, text, quanta, path, with_genebank):
+def run_leg(folder: pathlib.Path, text: str, quanta: int, path: str, with_genebank: bool) -> files.World:
     """Runs a leg in its folder, and gives the world at its end."""
     folder.mkdir(parents=True, exist_ok=True)
     file = folder / "soup.toml"
@@ -81,9 +83,12 @@ def run_leg(folder, text, quanta, path, with_genebank):
     return world
 
 
-def relay(document, quanta, legs, top, path, with_genebank=True):
+def relay(
+    document: TOMLDocument, quanta: int, legs: int, top: pathlib.Path, path: str, with_genebank: bool = True
+) -> list[files.World]:
     """Runs the legs, and gives their last worlds."""
-    seed, worlds = soup.settings(document)["seed"], []
+    seed = soup.settings(document)["seed"]
+    worlds: list[files.World] = []
     program.forecast(path, quanta * legs * (2 if with_genebank else 1))
     with Progress(legs, "leg") as told:
         for leg in range(1, legs + 1):
@@ -93,9 +98,10 @@ def relay(document, quanta, legs, top, path, with_genebank=True):
     return worlds
 
 
-def joined(worlds):
+def joined(worlds: list[files.World]) -> pandas.DataFrame:
     """The saved genotypes of all legs, with the leg and the name under which each code was first saved."""
-    rows, first = [], {}
+    rows = []
+    first: dict[bytes, tuple[int, str]] = {}
     for leg, world in enumerate(worlds, 1):
         genotypes = world.genotypes.set_index("genotype")
         for saving in world.savings.itertuples():
@@ -106,7 +112,7 @@ def joined(worlds):
     return pandas.DataFrame(rows, columns=["leg", "name", "saved", "since", "first_leg", "first_name", "size", "code"])
 
 
-def run(args):
+def run(args: argparse.Namespace) -> None:
     if not 1 <= args.quanta <= soup.MOST_QUANTA or args.legs < 1:
         raise Refused(f"--quanta is from 1 to {soup.MOST_QUANTA:,}, and --legs at least 1")
     worlds = relay(soup.read(args.soup), args.quanta, args.legs, args.into, program.find(args.program), not args.no_genebank)

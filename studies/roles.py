@@ -27,8 +27,10 @@ its own. said tells in a line what was run and seen.
 
 A checkpoint is one moment: a genotype that lives between two checkpoints is not seen. Counts are of creatures at checkpoints.
 """
+import argparse
 import pathlib
 import sys
+from typing import Any
 
 import networkx
 import numpy
@@ -41,7 +43,7 @@ ROLES = ["host", "hyperparasite", "self", "parasite", "idle"]
 PLACES = ["own", "daughter", "other", "free"]
 
 
-def add_arguments(parser):
+def add_arguments(parser: argparse.ArgumentParser) -> None:
     parser.add_argument("file", help="a file of checkpoints, or a dump; - for a dump from standard input")
     parser.add_argument("--soup", help="the soup file of the checkpoints; without it, they may be of any setup")
     shown = parser.add_mutually_exclusive_group()
@@ -51,7 +53,7 @@ def add_arguments(parser):
     alone.add_arguments(parser)
 
 
-def owners_of(creatures, size):
+def owners_of(creatures: pandas.DataFrame, size: int) -> numpy.ndarray:
     """The row of each cell's owner, k for a block and -2 - k for a daughter block, -1 for a free cell."""
     owners = numpy.full(size, -1, "int64")
     for k, row in enumerate(creatures[["at", "size", "daughter_at", "daughter_size"]].to_numpy()):
@@ -60,7 +62,7 @@ def owners_of(creatures, size):
     return owners
 
 
-def looked_up(creatures, owners, cells):
+def looked_up(creatures: pandas.DataFrame, owners: numpy.ndarray, cells: numpy.ndarray) -> tuple[numpy.ndarray, numpy.ndarray]:
     """Whose cells these are, one for each creature: its kind of place, and the row of the owner or -1."""
     found, mine = owners[cells], numpy.arange(len(creatures))
     whose = numpy.where(found < -1, -2 - found, found)
@@ -68,13 +70,13 @@ def looked_up(creatures, owners, cells):
     return kinds, whose
 
 
-def sources(creatures, size):
+def sources(creatures: pandas.DataFrame, size: int) -> tuple[numpy.ndarray, numpy.ndarray]:
     """The third cell of the genome that each creature is copying, and whether it is copying one."""
     done, whole = creatures.ax.to_numpy() % size - creatures.daughter_at.to_numpy(), creatures.daughter_size.to_numpy()
     return (creatures.bx.to_numpy() - done + 2) % size, (done >= 0) & (done <= whole) & (whole > 0)
 
 
-def who_runs_whom(creatures, size, quantum):
+def who_runs_whom(creatures: pandas.DataFrame, size: int, quantum: int) -> pandas.DataFrame:
     """A row for each creature of a moment: its name, whose cells it runs and whose genome it copies."""
     owners, names = owners_of(creatures, size), creatures.name.to_numpy()
     table = pandas.DataFrame({"quantum": quantum, "id": creatures.id, "name": names, "at": creatures["at"], "size": creatures["size"]})
@@ -89,7 +91,7 @@ def who_runs_whom(creatures, size, quantum):
     return table
 
 
-def seen_in(worlds):
+def seen_in(worlds: list[files.World]) -> pandas.DataFrame:
     """The rows of all creatures of all worlds."""
     tables = []
     for world in worlds:
@@ -115,7 +117,7 @@ def roles(seen: pandas.DataFrame, fates: pandas.DataFrame) -> pandas.DataFrame:
     return table
 
 
-def role_of(is_parasite, row):
+def role_of(is_parasite: bool, row: Any) -> str:
     """The role of a genotype, from its row of the table."""
     if not row.fertile:
         return "parasite" if is_parasite else "idle"
@@ -124,19 +126,19 @@ def role_of(is_parasite, row):
     return "hyperparasite" if row.copying >= 3 and 2 * row.robbed > row.copying else "host"
 
 
-def said_of(row) -> str:
+def said_of(row: Any) -> str:
     """What was seen of a genotype, from its row of the table."""
     said = f"{row.seen} seen with {row.runs_other} in cells of others; {row.visits} parasites in its cells"
     return said + (f" with {row.copying} copying and {row.robbed} of these its own genome" if row.copying else "")
 
 
-def counts(seen, table):
+def counts(seen: pandas.DataFrame, table: pandas.DataFrame) -> pandas.DataFrame:
     """How many creatures of each role live at each checkpoint."""
     by_role = seen.assign(role=table.role.loc[seen.name].values).groupby(["quantum", "role"]).size().unstack(fill_value=0)
     return by_role.reindex(columns=ROLES, fill_value=0)
 
 
-def graph(seen, table=None):
+def graph(seen: pandas.DataFrame, table: pandas.DataFrame | None = None) -> networkx.DiGraph:
     """Who runs in whom: a node for each genotype, and an edge for each pair of which one was seen in cells of the other; `times` counts
     the creatures, and `copying` those that were copying from its block."""
     made = networkx.DiGraph()
@@ -149,9 +151,9 @@ def graph(seen, table=None):
     return made
 
 
-def codes_in(text, creatures):
+def codes_in(text: str, creatures: pandas.DataFrame) -> dict[str, bytes]:
     """The code of each genotype of a dump, as the block of its first creature holds it now."""
-    cells = {}
+    cells: dict[int, int] = {}
     for line in text.splitlines():
         if line[7:8] == ":":
             cells.update(enumerate(bytes.fromhex(line[8:]), int(line[:7])))
@@ -161,7 +163,7 @@ def codes_in(text, creatures):
     }
 
 
-def read(path, digest=None):
+def read(path: str, digest: bytes | None = None) -> tuple[pandas.DataFrame, dict[str, bytes]]:
     """What a file of checkpoints or a dump shows: the rows of its creatures, and the genotypes' codes."""
     if path == "-" or open(path, "rb").read(7) == b"quanta ":
         text = sys.stdin.read() if path == "-" else soup.text_in(path)
@@ -177,7 +179,7 @@ def read(path, digest=None):
     return seen_in(worlds), dict(zip(genotypes.name, genotypes.code))
 
 
-def run(args):
+def run(args: argparse.Namespace) -> None:
     seen, codes = read(args.file, soup.digest_of(args.soup))
     if args.creatures:
         seen.to_csv(sys.stdout, index=False)

@@ -4,10 +4,12 @@ import hashlib
 import pathlib
 import re
 import tomllib
+from typing import Any, Iterable, Mapping
 
 import tomlkit
 import tomlkit.exceptions
 import tomlkit.items
+from tomlkit import TOMLDocument
 
 from .refusal import Refused
 
@@ -19,7 +21,7 @@ INSTRUCTIONS = (
 ).split()
 CODE_OF = {name: code for code, name in enumerate(INSTRUCTIONS)}
 # Each setting with its default, in the order in which the digest of a setup has them; the two of the disturbance come last.
-SETTINGS = {
+SETTINGS: dict[str, int | str] = {
     # settings: made by docs/make_tables
     "soup_size": 60000,
     "slice_size": 25,
@@ -44,9 +46,10 @@ SETTINGS = {
 }
 MOST_BYTES = 1048576
 MOST_QUANTA, USUAL_EVERY = 4000000, 1000
+Placed = tuple[int, bytes, str | None]  # a creature's place, code and comment
 
 
-def code_of_listing(text, what="listing"):
+def code_of_listing(text: str, what: str = "listing") -> bytes:
     """The code of a listing, as bytes."""
     code = bytearray()
     for number, line in enumerate(text.split("\n"), 1):
@@ -59,13 +62,13 @@ def code_of_listing(text, what="listing"):
     return bytes(code)
 
 
-def listing_of_code(code, words=16):
+def listing_of_code(code: bytes, words: int = 16) -> str:
     """The listing of a code, so many instructions a line."""
     names = [INSTRUCTIONS[op] for op in code]
     return "".join(" ".join(names[k : k + words]) + "\n" for k in range(0, len(names), words))
 
 
-def parse(text, what="soup file"):
+def parse(text: str, what: str = "soup file") -> TOMLDocument:
     """The document of a soup file's text."""
     try:
         return tomlkit.parse(text)
@@ -73,7 +76,7 @@ def parse(text, what="soup file"):
         raise Refused(f"{what} is not TOML: {str(fault).splitlines()[0]}") from fault
 
 
-def plain(text, what="soup file"):
+def plain(text: str, what: str = "soup file") -> dict[str, Any]:
     """What a soup file's text says, in plain Python values."""
     try:
         return tomllib.loads(text)
@@ -81,7 +84,7 @@ def plain(text, what="soup file"):
         raise Refused(f"{what} is not TOML: {fault}") from fault
 
 
-def text_in(path):
+def text_in(path: str | pathlib.Path) -> str:
     """The text of a file in UTF-8."""
     try:
         return pathlib.Path(path).read_text(encoding="utf-8")
@@ -89,12 +92,12 @@ def text_in(path):
         raise Refused(f"{path} is not UTF-8") from fault
 
 
-def read(path):
+def read(path: str | pathlib.Path) -> TOMLDocument:
     """The document of a soup file, with its comments."""
     return parse(text_in(path), str(path))
 
 
-def text_of(document):
+def text_of(document: TOMLDocument) -> str:
     """The text of a document. One that the program would refuse for its length is refused here."""
     text = tomlkit.dumps(document)
     if (length := len(text.encode())) > MOST_BYTES:
@@ -102,12 +105,12 @@ def text_of(document):
     return text
 
 
-def settings(document):
+def settings(document: Mapping[str, Any]) -> dict[str, Any]:
     """Every setting of a soup file, in plain Python values, with the defaults of the keys that it leaves out."""
     return {key: document.get(key, default) for key, default in SETTINGS.items()}
 
 
-def creatures(document):
+def creatures(document: Mapping[str, Any]) -> list[tuple[int, bytes]]:
     """Each creature's place and code."""
     try:
         return [(int(creature["at"]), code_of_listing(creature["code"])) for creature in document["creature"]]
@@ -115,7 +118,7 @@ def creatures(document):
         raise Refused("the soup file lacks a creature with `at` and `code`") from fault
 
 
-def without_lines_of_comment(document):
+def without_lines_of_comment(document: TOMLDocument) -> TOMLDocument:
     """Takes out the comments that have a line of their own: they tell of the file as it was. Gives the document."""
     for _, item in document.body:
         if isinstance(item, tomlkit.items.Comment):
@@ -123,7 +126,7 @@ def without_lines_of_comment(document):
     return document
 
 
-def with_settings(document, settings):
+def with_settings(document: TOMLDocument, settings: Mapping[str, Any]) -> TOMLDocument:
     """A copy of a document with these settings. No comment stays that was said of another value, or of the file as it was."""
     changing = copy.deepcopy(document)
     others = {key: value for key, value in settings.items() if document.unwrap().get(key) != value}
@@ -133,7 +136,7 @@ def with_settings(document, settings):
     return without_lines_of_comment(changing) if others else changing
 
 
-def with_creatures(document, placed):
+def with_creatures(document: TOMLDocument, placed: Iterable[Placed]) -> TOMLDocument:
     """A copy of a document with these creatures, each a place, a code and a comment, in place of its own."""
     changing = without_lines_of_comment(copy.deepcopy(document))
     changing.pop("creature", None)
@@ -149,7 +152,7 @@ def with_creatures(document, placed):
     return changing
 
 
-def value_of(key, text):
+def value_of(key: str, text: str) -> int | bool:
     """The value that a word of `--set` gives to a key: a number, true or false."""
     if key not in SETTINGS or key == "seed":
         raise Refused("--set takes no seed: --seeds does" if key == "seed" else f"--set: unknown key {key}")
@@ -168,14 +171,14 @@ def check_quanta(quanta: int) -> None:
         raise Refused(f"--quanta is from 1 to {MOST_QUANTA:,}")
 
 
-def seed_text(number):
+def seed_text(number: int) -> str:
     """The text of a seed that is given as a number."""
     if not 0 <= number < 16**64:
         raise Refused(f"seed {number} is not a number of at most 64 hexadecimal digits")
     return f"{number:064x}"
 
 
-def setup_bytes(document):
+def setup_bytes(document: Mapping[str, Any]) -> bytes:
     """The bytes of which the digest of a setup is made ("A setup's bytes" in docs/FORMATS.md)."""
     values = settings(document)
     parts = []
@@ -198,11 +201,11 @@ def setup_bytes(document):
     return b"".join(parts)
 
 
-def digest(document):
+def digest(document: Mapping[str, Any]) -> bytes:
     """The digest of the setup, which stands in the header of both files that the program keeps."""
     return hashlib.sha256(setup_bytes(document)).digest()
 
 
-def digest_of(path):
+def digest_of(path: str | pathlib.Path | None) -> bytes | None:
     """The digest of the setup of a soup file, or None where no file is named."""
     return None if path is None else digest(plain(text_in(path), str(path)))

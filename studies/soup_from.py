@@ -7,8 +7,12 @@ Each `--put` names a genebank, a file of checkpoints, or a listing (FILE.listing
 individuals begin. The settings are those of the file `--like`, with `--set` and `--seed` on top. Blocks that overlap or end past the
 last cell are refused, and so is a file that would be longer than the program takes.
 """
+import argparse
 import re
 import sys
+from typing import Sequence
+
+from tomlkit import TOMLDocument
 
 from . import genotypes, soup, sweep
 from .refusal import Refused
@@ -16,14 +20,14 @@ from .refusal import Refused
 PUT = re.compile(r"(?P<file>.+?)(?::(?P<name>\d{4,}[a-z]{3,}))?@(?P<places>\d+(?:,\d+)*)")
 
 
-def add_arguments(parser):
+def add_arguments(parser: argparse.ArgumentParser) -> None:
     parser.add_argument("--like", required=True, help="the soup file with the settings; its creatures are left out")
     parser.add_argument("--put", action="append", required=True, metavar="FILE:NAME@CELL,..", help="a genotype, and where it begins")
     parser.add_argument("--set", action="append", default=[], metavar="KEY=VALUE", help="another value of a setting")
     parser.add_argument("--seed", type=int, help="another seed, as a number")
 
 
-def placed_by(word):
+def placed_by(word: str) -> list[soup.Placed]:
     """The places, code and comment of the creatures that one `--put` names."""
     found = PUT.fullmatch(word)
     if not found:
@@ -37,7 +41,7 @@ def placed_by(word):
     return [(int(place), code, comment) for place in found["places"].split(",")]
 
 
-def check_places(placed, size):
+def check_places(placed: Sequence[soup.Placed], size: int) -> None:
     """Refuses blocks that overlap or end past the last cell."""
     end, before = 0, None
     for at, code, comment in sorted(placed, key=lambda one: one[0]):
@@ -48,7 +52,7 @@ def check_places(placed, size):
         raise Refused(f"the creature at {before} ends past the last cell of {size}")
 
 
-def made(document, placed):
+def made(document: TOMLDocument, placed: Sequence[soup.Placed]) -> str:
     """The text of a document with these creatures, read back: it says just them."""
     check_places(placed, soup.settings(document)["soup_size"])
     text = soup.text_of(soup.with_creatures(document, placed))
@@ -59,7 +63,7 @@ def made(document, placed):
     return text
 
 
-def run(args):
+def run(args: argparse.Namespace) -> None:
     settings = {} if args.seed is None else {"seed": soup.seed_text(args.seed)}
     document = soup.with_settings(soup.read(args.like), sweep.one_value_of(args.set) | settings)
     sys.stdout.write(made(document, [one for word in args.put for one in placed_by(word)]))

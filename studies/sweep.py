@@ -8,21 +8,26 @@ file is read back before anything runs, and no two may be one setup. A comment o
 of comment alone. A folder with `notes.json` is finished and is left alone. A sweep that was interrupted goes on when it is started again.
 Each quantum is run once: `run` keeps a genebank, `hold` checkpoints, and `curve` prints births and deaths.
 """
+import argparse
 import concurrent.futures
 import itertools
 import json
 import os
 import pathlib
 import re
+from typing import Any, Sequence
+
+from tomlkit import TOMLDocument
 
 from . import files, notes, program, soup
 from .progress import Progress
 from .refusal import Refused
 
+Asked = dict[str, dict[str, Any]]  # the settings that each run asks for, by the name of its folder
 KEPT = {"run": "tierra.bank", "hold": "tierra.hold", "curve": None}
 
 
-def add_arguments(parser):
+def add_arguments(parser: argparse.ArgumentParser) -> None:
     parser.add_argument("soup", help="the soup file that the runs share")
     parser.add_argument("--quanta", type=int, required=True, help="quanta of each run, up to 4,000,000")
     parser.add_argument("--seeds", help="numbers and ranges, as 0-63,100; without it the file's own seed")
@@ -36,9 +41,9 @@ def add_arguments(parser):
     program.add_argument(parser)
 
 
-def seeds_of(text):
+def seeds_of(text: str) -> list[int]:
     """The seeds that a text such as `0-63,100` names."""
-    seeds = []
+    seeds: list[int] = []
     for part in text.split(","):
         found = re.fullmatch(r"(\d+)(?:-(\d+))?", part)
         if not found or found[2] and int(found[2]) < int(found[1]):
@@ -47,7 +52,7 @@ def seeds_of(text):
     return seeds
 
 
-def values_of(words):
+def values_of(words: list[str]) -> dict[str, list[int | bool]]:
     """The values that the words of `--set` give to each key."""
     values = {}
     for word in words:
@@ -67,7 +72,7 @@ def one_value_of(words: list[str]) -> dict:
     return {key: some[0] for key, some in values.items()}
 
 
-def asked_for(values, seeds):
+def asked_for(values: dict[str, list[int | bool]], seeds: Sequence[int | None]) -> Asked:
     """What each run asks for, by the name of its folder: the settings to put into the soup file."""
     asked = {}
     for seed, chosen in itertools.product(seeds, itertools.product(*values.values())):
@@ -83,7 +88,7 @@ def asked_for(values, seeds):
     return asked
 
 
-def changed(document, settings):
+def changed(document: TOMLDocument, settings: dict[str, Any]) -> str:
     """The text of a document with these settings, read back by another reader of TOML: it says what was asked and no more."""
     text = soup.text_of(soup.with_settings(document, settings))
     said, before = soup.plain(text), document.unwrap()
@@ -92,9 +97,10 @@ def changed(document, settings):
     return text
 
 
-def texts_of(document, asked):
+def texts_of(document: TOMLDocument, asked: Asked) -> dict[str, str]:
     """The soup file of each run, by name. No two are the same setup."""
-    texts, names = {}, {}
+    texts: dict[str, str] = {}
+    names: dict[bytes, str] = {}
     for name, settings in asked.items():
         texts[name] = changed(document, settings)
         other = names.setdefault(soup.digest(soup.plain(texts[name])), name)
@@ -103,13 +109,13 @@ def texts_of(document, asked):
     return texts
 
 
-def planned(path, words, seeds):
-    """The soup file of each run by name, and what each asks for: with each seed, or with the file's own where there are none."""
-    asked = asked_for(values_of(words), [None] if seeds is None else seeds)
+def planned(path: str | pathlib.Path, words: list[str], seeds: Sequence[int | None]) -> tuple[dict[str, str], Asked]:
+    """The soup file of each run by name, and what each asks for; the seed None is the file's own."""
+    asked = asked_for(values_of(words), seeds)
     return texts_of(soup.read(path), asked), asked
 
 
-def replace(path, text):
+def replace(path: pathlib.Path, text: str) -> None:
     """Writes a file so that it is there whole or not at all."""
     part = path.with_name(path.name + ".part")
     with open(part, "w", encoding="utf-8") as file:
@@ -119,7 +125,7 @@ def replace(path, text):
     os.replace(part, path)
 
 
-def is_finished(folder, known):
+def is_finished(folder: pathlib.Path, known: dict[str, Any]) -> bool:
     """Whether a folder has this run already. A folder with another run is refused."""
     path = folder / "notes.json"
     if not path.exists():
@@ -134,7 +140,7 @@ def is_finished(folder, known):
     return True
 
 
-def do_run(folder, text, known, named):
+def do_run(folder: pathlib.Path, text: str, known: dict[str, Any], named: str) -> bool:
     """Does one run in its folder, unless it is finished. Gives whether it ran. What is known of it beforehand is noted at its end."""
     if is_finished(folder, known):
         return False
@@ -160,7 +166,7 @@ def do_run(folder, text, known, named):
     return True
 
 
-def command_of(action, quanta, every):
+def command_of(action: str, quanta: int, every: int | None) -> str:
     """The words for the program."""
     soup.check_quanta(quanta)
     if action == "run" and every is not None:
@@ -170,7 +176,7 @@ def command_of(action, quanta, every):
     return f"{action} --quanta {quanta}" + (f" --every {every}" if every is not None else "")
 
 
-def chosen(texts, one):
+def chosen(texts: dict[str, str], one: str | None) -> list[str]:
     """The runs to do: all, or the one that a name or a number names."""
     if one is None:
         return list(texts)
@@ -200,8 +206,9 @@ def run_all(top: pathlib.Path, runs: dict[str, tuple[str, dict]], command: str, 
             raise
 
 
-def run(args):
-    texts, asked = planned(args.soup, args.set, seeds_of(args.seeds) if args.seeds else None)
+def run(args: argparse.Namespace) -> None:
+    seeds: list[int | None] = [*seeds_of(args.seeds)] if args.seeds else [None]
+    texts, asked = planned(args.soup, args.set, seeds)
     command, names = command_of(args.action, args.quanta, args.every), chosen(texts, args.one)
     if args.list:
         print("\n".join(texts))

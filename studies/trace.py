@@ -7,8 +7,10 @@ quantum; creature (birth number); place (cell); instruction; ax, bx, cx, dx, fla
 top down, ten words; wrote (CELL=VALUE of a copy that went through); flipped (cells that a background flip changed).
 A checkpoint has a byte for each cell: take a small soup for a long trace. At most 100,000 quanta.
 """
+import argparse
 import pathlib
 import sys
+from typing import Any, Mapping
 
 import numpy
 import pandas
@@ -20,14 +22,14 @@ MOST = 100000
 COPY = soup.CODE_OF["mov_iab"]
 
 
-def add_arguments(parser):
+def add_arguments(parser: argparse.ArgumentParser) -> None:
     parser.add_argument("soup")
     parser.add_argument("--quanta", type=int, default=1000)
     parser.add_argument("--size", type=int, metavar="CELLS", help="another soup_size, for a smaller file")
     program.add_argument(parser)
 
 
-def row_of(quantum, front, before, world):
+def row_of(quantum: int, front: Any, before: numpy.ndarray, world: files.World) -> dict[str, Any]:
     """The row of one instruction: of the creature at the front of the world before, whose record and cells are given."""
     place, target = int(front["ip"]), int(front["ax"]) % len(before)
     op = before[place] if before[place] == COPY and target == place else world.cells[place]
@@ -44,7 +46,7 @@ def row_of(quantum, front, before, world):
     }  # fmt: skip
 
 
-def trace(document, worlds):
+def trace(document: Mapping[str, Any], worlds: list[files.World]) -> pandas.DataFrame:
     """The table of a run whose checkpoints are of every quantum."""
     first = numpy.zeros(1, files.CREATURE)[0]
     before = numpy.zeros(soup.settings(document)["soup_size"], numpy.uint8)
@@ -61,7 +63,7 @@ def trace(document, worlds):
     return pandas.DataFrame(rows)
 
 
-def run(args):
+def run(args: argparse.Namespace) -> None:
     if not 1 <= args.quanta <= MOST:
         raise Refused(f"--quanta is from 1 to {MOST:,}")
     settings = {"slice_size": 1, "slice_by_size": False} | ({"soup_size": args.size} if args.size else {})

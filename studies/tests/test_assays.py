@@ -134,6 +134,7 @@ def test_a_competition(told, built, tmp_path, monkeypatch):
     "words, line",
     [
         (["--put", f"{HOLD}:0080aaa"], "at least two genotypes"),
+        (["--put", f"{HOLD}:0080aaa", "--put", ""], "--put : FILE:NAME was expected"),
         (["--put", f"{HOLD}:0080aaa", "--put", LISTING], "this genotype was put in already"),
         (["--put", f"{HOLD}:0080aaa", "--put", f"{HOLD}:0044zzz"], "has no genotype 0044zzz"),
         (["--put", LISTING, "--put", f"{HOLD}:0044aaa", "--each", 1000], "have no room in 60000 cells"),

@@ -84,6 +84,12 @@ def test_listings_are_refused(text, line):
         listing.code_of(text)
 
 
+def test_blank_lines_of_fasta():
+    assert listing.of_fasta("\n>a\n\nAB\n\n>b\nB\n") == {"a": b"\x00\x01", "b": b"\x01"}
+    with pytest.raises(Refused, match="line 2: no head of a record before it"):
+        listing.of_fasta("\nAB\n>a\nAB\n")
+
+
 @peer("Biopython")
 def test_biopython_reads_the_fasta(told, tmp_path):
     from Bio import SeqIO

@@ -130,7 +130,8 @@ def test_a_sweep_and_its_notes(tmp_path, told, stand_in, refused):
     told(*words)
     first = folder_bytes(tmp_path / "sweep")
     noted = json.loads((tmp_path / "sweep/seed2/notes.json").read_text())
-    assert noted["setup"] == soup.digest(soup.parse(first["seed2/soup.toml"].decode())).hex() == files.setup_of(tmp_path / "sweep/seed2/tierra.bank").hex()
+    asked = soup.digest(soup.parse(first["seed2/soup.toml"].decode())).hex()
+    assert noted["setup"] == asked == files.setup_of(tmp_path / "sweep/seed2/tierra.bank").hex()
     assert noted["words"] == "run --quanta 5" and noted["asked"] == {"seed": f"{2:064x}"} and noted["seed"] == f"{2:064x}"
     assert noted["files"] == {name: hashlib.sha256(first["seed2/" + name]).hexdigest() for name in ("soup.toml", "run.txt", "tierra.bank")}
     assert (noted["version"], noted["host"]) == ((TOP / "VERSION").read_text().strip(), platform.node())
