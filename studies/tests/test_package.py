@@ -1,6 +1,9 @@
 """The tools as a package: installed by pip, and the public face of the library."""
+import functools
 import importlib.util
+import json
 import os
+import re
 import shutil
 import subprocess
 import sys
@@ -128,6 +131,15 @@ def test_what_the_face_reads():
     ]
     for ours, theirs in pairs:
         pandas.testing.assert_frame_equal(ours, theirs)
+
+
+def test_the_notebook_names_what_there_is():
+    """Each name that the notebook takes from the package is there."""
+    cells = [cell for cell in json.loads((TOP / "studies/parasites.ipynb").read_text())["cells"] if cell["cell_type"] == "code"]
+    named = [name.split(".") for name in re.findall(r"zuldokan((?:\.\w+)+)", "\n".join("".join(cell["source"]) for cell in cells))]
+    for _, *names in named:
+        assert callable(functools.reduce(getattr, names, studies)) or names == ["picture"]
+    assert len(named) > 10
 
 
 def test_modules_are_loaded_when_asked_for():
