@@ -1,6 +1,10 @@
 """What the tests share: the stored files of the program, a stand-in for it, and the program itself where there is one."""
+import functools
+import importlib.util
 import os
 import pathlib
+import shutil
+import subprocess
 import sys
 
 import pytest
@@ -82,7 +86,24 @@ def told(capsys):
     return ask
 
 
+# What each peer is found by: a Python module, a program on the PATH, or a package of R.
+PEERS = {
+    "ape": "R:ape", "Biopython": "Bio", "DendroPy": "dendropy", "ete3": "ete3", "GNU parallel": "parallel", "mafft": "mafft",
+    "networkx": "networkx", "pandas": "pandas", "scikit-bio": "skbio", "seqkit": "seqkit", "Snakemake": "snakemake", "vegan": "R:vegan",
+}  # fmt: skip
+
+
+@functools.cache
+def is_installed(needed):
+    """Whether a Python module, a program, or a package of R (as `R:ape`) is here."""
+    if needed.startswith("R:"):
+        asked = ["Rscript", "-e", f"quit(status = !requireNamespace('{needed[2:]}', quietly = TRUE))"]
+        return shutil.which("Rscript") is not None and subprocess.run(asked, capture_output=True).returncode == 0
+    return shutil.which(needed) is not None or importlib.util.find_spec(needed) is not None
+
+
 def peer(name):
     """Marks a test that compares with another program or library: it is skipped by its name where that is missing."""
-    needed = "PEERS" in os.environ
-    return pytest.mark.skipif(not needed, reason=f"a peer, {name}: studies/test --peers runs it")
+    if "PEERS" not in os.environ:
+        return pytest.mark.skip(reason=f"a peer, {name}: studies/test --peers runs it")
+    return pytest.mark.skipif(not is_installed(PEERS[name]), reason=f"{name} is not installed")

@@ -1,5 +1,6 @@
 """Frames, abundance, diversity, phylogeny and roles, on a run of hosts and parasites in a small soup."""
 import ast
+import collections
 import csv
 import io
 import math
@@ -9,7 +10,7 @@ import networkx
 import pandas
 import pytest
 
-from studies import abundance, diversity, files, phylogeny, printed, roles, soup
+from studies import abundance, diversity, files, frames, phylogeny, printed, roles, soup
 
 from .conftest import DATA, peer
 
@@ -110,6 +111,31 @@ def test_diversity_is_that_of_vegan(tmp_path):
     theirs, ours = pandas.read_csv(tmp_path / "out.csv", index_col=0), diversity.diversity(WORLDS)
     for column, mine in zip(theirs.columns, ("richness", "shannon", "simpson")):
         assert theirs[column].tolist() == pytest.approx(ours[mine].tolist(), abs=1e-12)
+
+
+@peer("pandas")
+def test_pandas_reads_the_tables(told, tmp_path):
+    """What is read back has the kinds and the values that were written, codes and all; `code` is said to be text."""
+    told("frames", HOLD, "--into", tmp_path)
+    for name, made in frames.tables(WORLDS).items():
+        read = pandas.read_csv(tmp_path / f"{name}.csv", dtype={"code": str})
+        pandas.testing.assert_frame_equal(read.astype(made.dtypes.to_dict()), made)
+
+
+@peer("networkx")
+def test_networkx_reads_the_graph(told, tmp_path):
+    """The GraphML has an edge for each pair that the table of creatures has, and how often; the phylogeny is a forest."""
+    seen = roles.seen_in(WORLDS)
+    table = roles.roles(seen, FATES)
+    networkx.write_graphml(roles.graph(seen, table), tmp_path / "who.graphml")
+    read = networkx.read_graphml(tmp_path / "who.graphml")
+    told_of = collections.Counter((row["name"], row["runs_name"]) for row in rows(told("roles", HOLD, "--creatures")) if row["runs"] == "other")
+    assert networkx.get_edge_attributes(read, "times") == told_of and networkx.get_node_attributes(read, "role") == table.role.to_dict()
+    tree = networkx.DiGraph()
+    for row in rows(told("phylogeny", HOLD)):
+        tree.add_node(row["id"])
+        tree.add_edges_from([(row["ancestor_list"][1:-1], row["id"])] if row["ancestor_list"] != "[NONE]" else [])
+    assert networkx.is_branching(tree) and len(tree) == len(WORLDS[-1].genotypes)
 
 
 @pytest.mark.parametrize("path", [HOLD, BANK])
@@ -254,6 +280,19 @@ def test_ete3_reads_the_tree(tmp_path):
         found.append((len(depths), max(depths), sum(depths)))
         names += [node.name for node in tree.traverse()]
     assert found == shapes and sorted(names) == sorted(name for name in WORLDS[-1].genotypes.name if name != "0080aab")
+
+
+@peer("scikit-bio")
+def test_scikit_bio_reads_the_tree(tmp_path):
+    import skbio
+
+    path, shapes = trees(tmp_path)
+    found = []
+    for line in path.read_text().splitlines():
+        tree = skbio.TreeNode.read(io.StringIO(line), format="newick", convert_underscores=False)
+        depths = [len(tip.ancestors()) for tip in tree.tips()]
+        found.append((len(depths), max(depths), sum(depths)))
+    assert found == shapes
 
 
 @peer("ape")
