@@ -13,6 +13,7 @@ VERBS = {
     "frames": "tables of what the checkpoints of a run hold",
     "abundance": "how many of each genotype live, over time",
     "diversity": "richness, Shannon and Simpson over time",
+    "activity": "evolutionary activity with neutral shadows, and what persists",
     "phylogeny": "the tree of genotypes, as a table of the ALife data standard or as Newick",
     "lineage": "the line from the founders to a genotype, with the mutations of each step",
     "assay": "which genotypes breed true when they are alone",
