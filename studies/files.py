@@ -317,3 +317,52 @@ def group_in(payload: Image, form_two: bool) -> list[Saved]:
     if not saved or at != len(payload):
         raise ValueError("not the bytes of a group")
     return saved
+
+
+class Growing:
+    """A file of checkpoints that a run may still be writing. It has a frame as soon as the frame is whole."""
+
+    def __init__(self, path: str, digest: Optional[bytes] = None):
+        self.path, self.digest, self.head = path, digest, b""
+        self.frames: list[tuple[int, int]] = []  # where the content of each frame begins and ends
+
+    def gate(self) -> int:
+        """Where the gate of the next frame stands."""
+        return self.frames[-1][1] + 32 if self.frames else HEADER - 1
+
+    def look(self) -> list[World]:
+        """The frames that came since the last look. One that is cut off, or not whole yet, is left for a later look,
+        with what is behind it. A file that was begun anew is read from its first frame: then `frames` has no others."""
+        with open(self.path, "rb") as file:
+            head, size = file.read(HEADER - 1), file.seek(0, 2)
+            if head != self.head or size <= self.gate():
+                self.head, self.frames = head, []
+            gate = file.seek(self.gate())
+            # Behind the header stands the next frame, as if it were the first one.
+            image = head + file.read()
+        if is_fresh(image, HOLD):
+            return []
+        if image[:12] != HOLD:
+            raise Refused(f"{self.path} is not a checkpoint")
+        check_setup(image, self.digest, self.path)
+        found: list[World] = []
+        try:
+            for begin, end, _ in parts_of(image, f"{self.path}: frame"):
+                world = World(memoryview(image)[begin:end], f"{self.path}: frame {len(self.frames)}")
+                if not (has_sound_creatures(world) and world.parts):
+                    break
+                found.append(world)
+                self.frames.append((gate + begin - HEADER + 1, gate + end - HEADER + 1))
+        except (Refused, ValueError):
+            pass
+        return found
+
+    def world(self, place: int) -> World:
+        """The world of a frame that was seen, read once more."""
+        begin, end = self.frames[place]
+        with open(self.path, "rb") as file:
+            file.seek(begin)
+            state, told = file.read(end - begin), file.read(32)
+        if hashlib.sha256(state).digest() != told:
+            raise Refused(f"{self.path}: frame {place} is damaged")
+        return World(state, f"{self.path}: frame {place}")

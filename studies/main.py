@@ -28,6 +28,7 @@ VERBS = {
     "trace": "a table of single instructions: registers, stack and what was written",
     "relay": "a run in legs, for more than 4,000,000 quanta",
     "picture": "pictures and an animation of a run",
+    "live": "follows a run: a page for a browser, or text",
 }
 
 
