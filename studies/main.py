@@ -27,6 +27,7 @@ VERBS = {
     "soup_from": "a soup file of genotypes of several runs at given places",
     "trace": "a table of single instructions: registers, stack and what was written",
     "relay": "a run in legs, for more than 4,000,000 quanta",
+    "events": "a run with events: genotypes put in, settings changed, creatures killed",
     "picture": "pictures and an animation of a run",
     "live": "follows a run: a page for a browser, or text",
 }
