@@ -134,7 +134,7 @@ def lineage_to(path: str | Path, name: str | None = None, soup: str | Path | Non
 
     Refused: a name that the file lacks, and a genebank where none is named. A genebank's line begins where a parent is missing, with a
     line on standard error.
-    Source: mothers and daughters are aligned by Biopython; other alignments may tell as few changes of other places.
+    Source: each daughter is aligned to her mother by Biopython, and of several best alignments the first is taken.
     """
     from . import lineage
     from .soup import digest_of
