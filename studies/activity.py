@@ -49,7 +49,7 @@ import math
 import pathlib
 import random
 import sys
-from typing import Optional
+from typing import TYPE_CHECKING, Optional
 
 import numpy
 import pandas
@@ -57,6 +57,9 @@ import pandas
 from . import alone, assay, files, frames, knockout, mutants, printed, soup
 from .progress import Progress
 from .refusal import Refused
+
+if TYPE_CHECKING:
+    from matplotlib.axes import Axes
 
 NEW, BIRTH, DEATH = "nbd"  # the events that a shadow repeats: the birth of a new genotype, another birth, and a death
 Counts = dict[int, int]  # a number for each genotype, such as how many live
@@ -281,7 +284,7 @@ def draw(path: pathlib.Path, table: pandas.DataFrame, grown: pandas.DataFrame, t
         picture.save(figure, path)
 
 
-def draw_waves(axis, grown: pandas.DataFrame, threshold: float) -> None:
+def draw_waves(axis: "Axes", grown: pandas.DataFrame, threshold: float) -> None:
     """A line for each genotype: those that became the most active have a colour."""
     from . import picture
 

@@ -131,9 +131,10 @@ class Follower:
         return {"begun": self.begun, "first": first, "rows": self.rows[first:]}
 
     def world(self, place: int) -> files.World:
-        if not 0 <= place < len(self.rows):
-            raise Refused(f"there is no checkpoint {place}")
-        return self.file.world(place)
+        with self.lock:
+            if not 0 <= place < len(self.rows):
+                raise Refused(f"there is no checkpoint {place}")
+            return self.file.world(place)
 
 
 def answer(follower: Follower, path: str, asked: dict[str, str]) -> Optional[dict]:
