@@ -19,7 +19,7 @@ The columns are:
   activity                the activities of these added up
   mean_activity           the same divided by diversity
   new, new_activity       how many of these passed the threshold since the checkpoint before; the same by diversity
-  shadow_diversity, shadow_mean_activity, shadow_new_activity
+  shadow_diversity, shadow_mean_activity, shadow_new, shadow_new_activity
                           the means of the shadows
   shadow_least, shadow_most
                           the least and the greatest mean_activity of a shadow
@@ -183,7 +183,7 @@ def activity(counted: list[Counts], shadows: list[list[Counts]], percentile: flo
     theirs = [activities(one, by) for one in shadows]
     threshold = threshold_of(theirs, percentile)
     table, others = measured(activities(counted, by), threshold), [measured(one, threshold) for one in theirs]
-    for column in ("diversity", "mean_activity", "new_activity"):
+    for column in ("diversity", "mean_activity", "new", "new_activity"):
         table[f"shadow_{column}"] = numpy.mean([other[column] for other in others], axis=0)
     means = [other.mean_activity for other in others]
     table["shadow_least"], table["shadow_most"] = numpy.min(means, axis=0), numpy.max(means, axis=0)
@@ -322,6 +322,8 @@ def run(args: argparse.Namespace) -> None:
     table.insert(0, "quantum", times)
     table = table.join(modes(kept, complexity_of(kept, genotypes, args)))
     table.to_csv(sys.stdout, index=False)
+    if not (args.waves or args.picture):
+        return
     grown = waves(worlds, activities(counted, args.by))
     if args.waves:
         grown.to_csv(args.waves, index=False)

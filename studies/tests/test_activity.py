@@ -51,7 +51,8 @@ def test_the_columns_of_shadows():
     assert set(table.threshold) == {7} and set(table.percentile) == {100}
     assert table.new.tolist() == [0, 0] and table.shadow_new_activity.tolist() == [0, 0]
     low = activity.activity(LIVING[:2], shadows, 30, "living")
-    assert set(low.threshold) == {1} and low.new.tolist() == [1, 1] and low.shadow_new_activity.tolist() == [0.5, 0.5]
+    assert set(low.threshold) == {1} and low.new.tolist() == [1, 1]
+    assert low.shadow_new.tolist() == [0.5, 0.5] and low.shadow_new_activity.tolist() == [0.5, 0.5]
 
 
 class Drawn:
