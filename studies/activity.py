@@ -61,7 +61,7 @@ from .refusal import Refused
 if TYPE_CHECKING:
     from matplotlib.axes import Axes
 
-NEW, BIRTH, DEATH = "nbd"  # the events that a shadow repeats: the birth of a new genotype, another birth, and a death
+NEW, BIRTH, DEATH = "n", "b", "d"  # what a shadow repeats: the birth of a new genotype, another birth, and a death
 Counts = dict[int, int]  # a number for each genotype, such as how many live
 Record = tuple[int, int]  # a line of a curve: the quantum and the creature
 
@@ -157,7 +157,7 @@ def activities(counted: list[Counts], by: str) -> list[Counts]:
 
 def threshold_of(shadows: list[list[Counts]], percentile: float) -> float:
     """The least activity that at least so many percent of all genotypes of the shadows never passed."""
-    ends = []
+    ends: list[int] = []
     for rows in shadows:
         last: Counts = {}
         for row in rows:
@@ -168,7 +168,8 @@ def threshold_of(shadows: list[list[Counts]], percentile: float) -> float:
 
 def measured(active: list[Counts], threshold: float) -> pandas.DataFrame:
     """Diversity, activity and new activity at each checkpoint."""
-    rows, passed = [], set()
+    rows: list[dict[str, float]] = []
+    passed: set[int] = set()
     for row in active:
         new = {one for one, value in row.items() if value > threshold} - passed
         passed |= new
@@ -212,7 +213,9 @@ def shannon(living: Counts) -> float:
 
 def modes(kept: list[Counts], complexity: dict[int, Optional[int]]) -> pandas.DataFrame:
     """The MODES statistics of what persists, with the complexity of those genotypes of which it is known."""
-    rows, before, ever = [], set(), set()
+    rows: list[dict[str, Optional[float]]] = []
+    before: set[int] = set()
+    ever: set[int] = set()
     for living in kept:
         now = set(living)
         known = [cells for cells in map(complexity.get, now) if cells is not None]

@@ -197,18 +197,23 @@ def legs_of(schedule: Schedule) -> list[Leg]:
 
 def after(event: Event, living: Placed, size: int, draw: random.Random) -> tuple[Placed, str]:
     """What lives after an event, and in words what it did."""
-    if event.settings is not None:
-        return living, " ".join(f"{key} = {json.dumps(value)}" for key, value in event.settings.items())
     if event.share is not None:
         dead = set(draw.sample(range(len(living)), int(event.share * len(living))))
         return [one for place, one in enumerate(living) if place not in dead], f"killed {len(dead)} of {len(living)}"
-    name, code = event.genotype
+    if event.genotype is not None:
+        name, code = event.genotype
+        placed = with_settlers(event, code, living, size, draw)
+        return placed, f"put {event.number} of {name} at {' '.join(str(at) for at, _, _ in placed[len(living):])}"
+    return living, " ".join(f"{key} = {json.dumps(value)}" for key, value in (event.settings or {}).items())
+
+
+def with_settlers(event: Event, code: bytes, living: Placed, size: int, draw: random.Random) -> Placed:
+    """The living, and behind them those that an event puts in."""
     if event.places is None:
-        placed = invade.with_invaders(living, code, event.number, size, draw)
-    else:
-        placed = living + [(place, code, None) for place in event.places]
-        soup_from.check_places(placed, size)
-    return placed, f"put {event.number} of {name} at {' '.join(str(at) for at, _, _ in placed[len(living):])}"
+        return invade.with_invaders(living, code, event.number, size, draw)
+    placed = [*living, *((place, code, None) for place in event.places)]
+    soup_from.check_places(placed, size)
+    return placed
 
 
 def living_after(leg: Leg, world: files.World, size: int, draw: random.Random) -> Placed:

@@ -76,7 +76,9 @@ def test_a_shadow_by_hand():
 def test_shadows_have_the_runs_numbers():
     """Whatever is drawn, as many live as in the run. A genotype without another birth lives at most once."""
     founders, stretches = [0, 0, 1], ["bbn", "dnd", "", "ddbn"]
-    for counted in activity.shadows_of(founders, stretches, 25, 3):
+    shadows = activity.shadows_of(founders, stretches, 25, 3)
+    assert len({str(counted) for counted in shadows}) > 5
+    for counted in shadows:
         assert [sum(living.values()) for living in counted] == [6, 5, 5, 5]
         assert {0, 1, 2, 3, 4} >= set().union(*counted)
     assert activity.shadows_of(founders, stretches, 5, 3) == activity.shadows_of(founders, stretches, 7, 3)[:5]
