@@ -58,11 +58,11 @@ def usage() -> str:
 def main(words: list[str] | None = None) -> int:
     """Does what the words ask for, and gives the exit status: 0, or 2 with one line where they or an input are refused."""
     words = sys.argv[1:] if words is None else words
-    if not words or words[0] in ("-h", "--help"):
-        print(usage())
-        return 0 if words else 2
-    verb, *rest = words
+    verb, *rest = words or ["--help"]
     try:
+        if verb in ("-h", "--help"):
+            print(usage(), flush=True)
+            return 0 if words else 2
         if verb not in VERBS:
             raise Refused(f"no verb {verb}; zuldokan --help names them")
         module = importlib.import_module(f".{verb}", __package__)
