@@ -16,7 +16,7 @@ HOLD = DATA / "mixed.hold"
 WORLDS = files.read_hold(HOLD)
 
 # Genotype 0 is the founder, 1 is its daughter, 2 and 3 are those of 1, and 4 is that of 0.
-BORN = [(None, 0), (0, 8), (1, 15), (1, 25), (0, 34)]
+BORN = [(None, 0), (0, 10), (1, 15), (1, 25), (0, 34)]
 GENOTYPES = [{"genotype": one, "parent": parent, "first_quantum": time} for one, (parent, time) in enumerate(BORN)]
 TIMES = [10, 20, 30, 40]
 LIVING = [{0: 2, 1: 1}, {0: 1, 1: 2, 2: 1}, {1: 2, 3: 2}, {3: 3, 4: 1}]
@@ -92,7 +92,9 @@ def test_a_shadow_is_neutral():
 
 
 def test_what_persists_by_hand():
-    """Two checkpoints after 10 live 1 and 3, of the line of 1; two after 20 live 3 and 4, of the lines of 1 and 0."""
+    """Two checkpoints after 10 live 1 and 3, of the line of 1, which was born in quantum 10.
+
+    Two checkpoints after 20 live 3 and 4, of the lines of 1 and 0."""
     kept = activity.persistent(LIVING, TIMES, GENOTYPES, 2)
     assert kept == [{1: 1}, {0: 1, 1: 2}]
     assert activity.persistent(LIVING, TIMES, GENOTYPES, 1) == [{0: 2, 1: 1}, {1: 2}, {3: 2}]
