@@ -27,12 +27,13 @@ pub struct Creature {
     pub sp: u32,
     pub flag: u8,
     pub errors: u64,
+    pub genotype: usize,
     pub ran: u64,
     pub bred: u64,
 }
 
 impl Creature {
-    pub fn newborn(id: u64, own: Block) -> Creature {
+    pub fn newborn(id: u64, own: Block, genotype: usize) -> Creature {
         Creature {
             id,
             own,
@@ -47,6 +48,7 @@ impl Creature {
             sp: 0,
             flag: 0,
             errors: 0,
+            genotype,
             ran: 0,
             bred: 0,
         }

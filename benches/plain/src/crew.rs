@@ -210,7 +210,7 @@ fn creatures(row: &mut [u8], cells: u32) -> Vec<Creature> {
     });
     let make = |own: Block| {
         row[own.at as usize..(own.at + own.size) as usize].copy_from_slice(&code);
-        Creature::newborn(1, own)
+        Creature::newborn(1, own, 0)
     };
     blocks.map(make).collect()
 }

@@ -4,7 +4,7 @@
 //! itself changes what it reads, and no job is ever stale.
 
 use crate::creature::{Block, Creature};
-use crate::machine::{step, Act, Limits, View};
+use crate::machine::{step, Act, Limits, Never, View};
 use std::sync::Arc;
 
 /// How many cells a page has.
@@ -47,7 +47,7 @@ pub fn daughter_block(creature: &Creature) -> Block {
 #[inline(never)]
 pub fn run_serial<V: View>(creature: &mut Creature, view: &mut V, slice: u32, limits: Limits) {
     for _ in 0..slice {
-        match step(creature, view, limits) {
+        match step(creature, view, limits, &mut Never) {
             Act::Plain | Act::Wrote { .. } => {}
             Act::Erred => creature.fail(),
             Act::Mal { .. } => creature.take(daughter_block(creature)),
@@ -60,7 +60,7 @@ pub fn run_serial<V: View>(creature: &mut Creature, view: &mut V, slice: u32, li
 #[inline(never)]
 pub fn run_alone<V: View>(creature: &mut Creature, view: &mut V, slice: u32, limits: Limits, events: &mut Vec<Event>) {
     for _ in 0..slice {
-        match step(creature, view, limits) {
+        match step(creature, view, limits, &mut Never) {
             Act::Plain => {}
             Act::Wrote { at, value } => events.push(Event::Write { at, value }),
             Act::Erred => {

@@ -120,7 +120,7 @@ impl Scene {
         Scene {
             pages: cut(&row),
             row,
-            creature: Creature::newborn(1, Block { at: 0, size: cells }),
+            creature: Creature::newborn(1, Block { at: 0, size: cells }, 0),
         }
     }
 

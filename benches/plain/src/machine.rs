@@ -1,4 +1,4 @@
-//! One instruction of one creature, in a view of the soup, without mutation.
+//! One instruction of one creature, in a view of the soup.
 
 use crate::creature::Creature;
 
@@ -10,6 +10,29 @@ pub trait View {
 
     /// What is known of the cells, in one row. A byte of 32 or more is a cell that is not known.
     fn row(&self) -> &[u8];
+}
+
+/// What goes wrong by chance in an instruction.
+pub trait Chance {
+    fn flaw(&mut self) -> i32;
+
+    /// The bits that flip in what the instruction copies.
+    fn flip(&mut self) -> u8;
+}
+
+/// Nothing goes wrong.
+pub struct Never;
+
+impl Chance for Never {
+    #[inline(always)]
+    fn flaw(&mut self) -> i32 {
+        0
+    }
+
+    #[inline(always)]
+    fn flip(&mut self) -> u8 {
+        0
+    }
 }
 
 /// What is left to do after an instruction.
@@ -61,8 +84,9 @@ fn address(value: i32, size: u32) -> u32 {
 
 /// Executes the instruction at the creature's `ip`.
 #[inline(always)]
-pub fn step<V: View>(creature: &mut Creature, view: &mut V, limits: Limits) -> Act {
+pub fn step<V: View>(creature: &mut Creature, view: &mut V, limits: Limits, chance: &mut impl Chance) -> Act {
     let size = view.size();
+    let flaw = chance.flaw();
     let ip = creature.ip;
     let code = view.get(ip);
     creature.ip = next_place(ip, size);
@@ -70,17 +94,17 @@ pub fn step<V: View>(creature: &mut Creature, view: &mut V, limits: Limits) -> A
     creature.ran += 1;
     match code {
         0 | 1 => {}
-        2 => creature.cx ^= 1,
-        3 => creature.cx = creature.cx.wrapping_shl(1),
-        4 => creature.cx = 0,
+        2 => creature.cx ^= 1 + flaw,
+        3 => creature.cx = creature.cx.wrapping_shl((1 + flaw) as u32),
+        4 => creature.cx = flaw,
         5 if creature.cx != 0 => creature.ip = next_place(creature.ip, size),
         5 => {}
-        6 => creature.cx = creature.ax.wrapping_sub(creature.bx),
-        7 => creature.ax = creature.ax.wrapping_sub(creature.cx),
-        8 => creature.ax = creature.ax.wrapping_add(1),
-        9 => creature.bx = creature.bx.wrapping_add(1),
-        10 => creature.cx = creature.cx.wrapping_sub(1),
-        11 => creature.cx = creature.cx.wrapping_add(1),
+        6 => creature.cx = creature.ax.wrapping_sub(creature.bx).wrapping_add(flaw),
+        7 => creature.ax = creature.ax.wrapping_sub(creature.cx).wrapping_add(flaw),
+        8 => creature.ax = creature.ax.wrapping_add(1 + flaw),
+        9 => creature.bx = creature.bx.wrapping_add(1 + flaw),
+        10 => creature.cx = creature.cx.wrapping_add(flaw - 1),
+        11 => creature.cx = creature.cx.wrapping_add(1 + flaw),
         12 => creature.push(creature.ax),
         13 => creature.push(creature.bx),
         14 => creature.push(creature.cx),
@@ -93,12 +117,12 @@ pub fn step<V: View>(creature: &mut Creature, view: &mut V, limits: Limits) -> A
         21 => return jump(creature, view, ip, Way::Backward, limits),
         22 => return call(creature, view, ip, limits),
         23 => creature.ip = address(creature.pop(), size),
-        24 => creature.dx = creature.cx,
-        25 => creature.bx = creature.ax,
-        26 => return copy(creature, view),
-        27 => return find(creature, view, ip, Way::Outward, limits),
-        28 => return find(creature, view, ip, Way::Backward, limits),
-        29 => return find(creature, view, ip, Way::Forward, limits),
+        24 => creature.dx = creature.cx.wrapping_add(flaw),
+        25 => creature.bx = creature.ax.wrapping_add(flaw),
+        26 => return copy(creature, view, chance),
+        27 => return find(creature, view, ip, Way::Outward, limits, flaw),
+        28 => return find(creature, view, ip, Way::Backward, limits, flaw),
+        29 => return find(creature, view, ip, Way::Forward, limits, flaw),
         30 => return Act::Mal { size: creature.cx },
         _ => return Act::Divide,
     }
@@ -126,10 +150,10 @@ fn call<V: View>(c: &mut Creature, view: &mut V, ip: u32, limits: Limits) -> Act
     }
 }
 
-fn find<V: View>(c: &mut Creature, view: &mut V, ip: u32, way: Way, limits: Limits) -> Act {
+fn find<V: View>(c: &mut Creature, view: &mut V, ip: u32, way: Way, limits: Limits, flaw: i32) -> Act {
     match search(view, ip, way, limits) {
         Some(place) => {
-            c.ax = place as i32;
+            c.ax = place as i32 + flaw;
             Act::Plain
         }
         None => Act::Erred,
@@ -137,13 +161,13 @@ fn find<V: View>(c: &mut Creature, view: &mut V, ip: u32, way: Way, limits: Limi
 }
 
 #[inline(always)]
-fn copy<V: View>(creature: &mut Creature, view: &mut V) -> Act {
+fn copy<V: View>(creature: &mut Creature, view: &mut V, chance: &mut impl Chance) -> Act {
     let size = view.size();
     let at = address(creature.ax, size);
     if !creature.may_write(at) {
         return Act::Erred;
     }
-    let value = view.get(address(creature.bx, size));
+    let value = view.get(address(creature.bx, size)) ^ chance.flip();
     view.set(at, value);
     if creature.daughter.is_some_and(|block| block.contains(at)) {
         creature.moved += 1;

@@ -3,40 +3,37 @@
 mod ancestor;
 mod creature;
 mod crew;
+mod draws;
+mod genotypes;
 mod job;
 mod jobs;
 mod machine;
+mod setup;
 mod world;
 
+use setup::Setup;
+use std::io::{self, Read, Write};
 use std::time::Instant;
-use world::{Settings, World};
+use world::World;
 
-/// Tells the least time of some runs of the ancestor, and the counts that `tierra dump` tells too.
-fn time_run(quanta: u64, slice: u32, size: u32) {
-    let code = ancestor::padded(80);
-    let mut least = f64::INFINITY;
-    let mut counts = String::new();
-    for _ in 0..5 {
-        let start = Instant::now();
-        let mut world = World::start(Settings::usual(size, slice), &code);
-        for _ in 0..quanta {
-            world.quantum();
-        }
-        least = least.min(start.elapsed().as_secs_f64());
-        counts = world.counts();
+/// Runs the world of a soup file up to a quantum, and tells how many seconds the quanta after an earlier one took. It
+/// writes the world's bytes.
+fn run(quanta: u64, after: u64) -> io::Result<()> {
+    let mut file = String::new();
+    io::stdin().read_to_string(&mut file)?;
+    let mut world = World::start(Setup::read(&file));
+    for _ in 0..after {
+        world.quantum();
     }
-    println!(
-        "{quanta} quanta of {slice} instructions, {size} cells: {:.0} ms; {counts}",
-        1000.0 * least
-    );
+    let start = Instant::now();
+    for _ in after..quanta {
+        world.quantum();
+    }
+    eprintln!("{:.6}", start.elapsed().as_secs_f64());
+    io::stdout().write_all(&world.bytes())
 }
 
-fn main() {
-    println!("whole runs of the ancestor");
-    time_run(200_000, 25, 60_000);
-    time_run(800_000, 25, 60_000);
-    time_run(20_000, 1000, 60_000);
-    time_run(400_000, 25, 1_048_576);
+fn compare() {
     println!("jobs");
     jobs::compare(80, 25, 60_000);
     jobs::compare(80, 25, 1_048_576);
@@ -48,4 +45,18 @@ fn main() {
     crew::compare(1000, 1000, 60_000, 10_000);
     crew::compare(4000, 1000, 1_048_576, 10_000);
     crew::compare(4000, 4000, 1_048_576, 2_500);
+}
+
+/// `plain` compares jobs and workers. `plain QUANTA [AFTER] < soup.toml > world` runs a soup file.
+fn main() -> io::Result<()> {
+    let mut numbers = std::env::args()
+        .skip(1)
+        .map(|word| word.parse().expect("a number of quanta"));
+    match numbers.next() {
+        Some(quanta) => run(quanta, numbers.next().unwrap_or(0)),
+        None => {
+            compare();
+            Ok(())
+        }
+    }
 }

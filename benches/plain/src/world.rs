@@ -1,37 +1,16 @@
 //! A soup with its creatures, one quantum after another.
 
+mod bytes;
+
 use crate::creature::{Block, Creature};
-use crate::machine::{step, Act, Limits, View};
-use std::collections::{BTreeMap, HashMap, VecDeque};
+use crate::draws::Draws;
+use crate::genotypes::{Effort, Genotypes};
+use crate::machine::{step, Act, View};
+use crate::setup::{Settings, Setup};
+use std::collections::{BTreeMap, VecDeque};
 
-pub struct Settings {
-    pub soup_size: u32,
-    pub slice_size: u32,
-    pub limits: Limits,
-    pub min_cell: u32,
-    pub max_cell: u32,
-    pub mal_mult: u32,
-    pub fill_percent: u32,
-    pub move_percent: u32,
-}
-
-impl Settings {
-    pub fn usual(soup_size: u32, slice_size: u32) -> Settings {
-        Settings {
-            soup_size,
-            slice_size,
-            limits: Limits {
-                search: 400,
-                min_template: 1,
-            },
-            min_cell: 12,
-            max_cell: 20_000,
-            mal_mult: 3,
-            fill_percent: 80,
-            move_percent: 70,
-        }
-    }
-}
+/// The most instructions of a slice that goes by the creature's size.
+const MOST_SLICE: u64 = 10_000;
 
 /// All cells, known and in one row.
 pub struct Row<'a>(pub &'a mut [u8]);
@@ -68,62 +47,96 @@ pub struct World {
     reaper: Vec<usize>,
     taken: BTreeMap<u32, u32>,
     filled: u32,
-    genotypes: HashMap<Vec<u8>, u64>,
+    genotypes: Genotypes,
+    quanta: u64,
     next_birth: u64,
     births: u64,
     deaths: u64,
 }
 
 impl World {
-    pub fn start(settings: Settings, code: &[u8]) -> World {
-        let own = Block {
-            at: 0,
-            size: code.len() as u32,
-        };
-        let mut soup = vec![0; settings.soup_size as usize];
-        soup[..code.len()].copy_from_slice(code);
+    pub fn start(setup: Setup) -> World {
         let mut world = World {
-            settings,
-            soup,
+            soup: vec![0; setup.settings.soup_size as usize],
+            genotypes: Genotypes::new(setup.settings.save_at),
+            settings: setup.settings,
             creatures: Vec::new(),
             empty: Vec::new(),
             slicer: VecDeque::new(),
             reaper: Vec::new(),
-            taken: BTreeMap::from([(own.at, own.size)]),
-            filled: own.size,
-            genotypes: HashMap::new(),
+            taken: BTreeMap::new(),
+            filled: 0,
+            quanta: 0,
             next_birth: 1,
             births: 0,
             deaths: 0,
         };
-        world.enter(own);
+        for founder in setup.founders {
+            let (at, size) = (founder.at, founder.code.len() as u32);
+            world.soup[at as usize..(at + size) as usize].copy_from_slice(&founder.code);
+            world.take(Block { at, size });
+            world.enter(Block { at, size }, None, 0);
+        }
         world
-    }
-
-    /// The first counts of a report.
-    pub fn counts(&self) -> String {
-        let living = self.slicer.len();
-        format!("births {}, deaths {}, living {living}", self.births, self.deaths)
     }
 
     /// The creature at the front runs its slice, and goes to the end.
     pub fn quantum(&mut self) {
+        let quantum = self.quanta + 1;
         let front = self.slicer[0];
-        let mut creature = self.creatures[front].expect("the front is alive");
-        for _ in 0..self.settings.slice_size {
-            match step(&mut creature, &mut Row(&mut self.soup), self.settings.limits) {
+        let mut draws = Draws::of(&self.settings, quantum);
+        if let Some((at, bit)) = draws.background(self.settings.soup_size) {
+            self.soup[at as usize] ^= bit;
+        }
+        if self.settings.dist_every != 0 && quantum.is_multiple_of(u64::from(self.settings.dist_every)) {
+            self.disturb(front);
+        }
+        let mut creature = *self.creature(front);
+        for instruction in 0..self.slice_of(&creature) {
+            draws.instruction = instruction;
+            let mut row = Row(&mut self.soup);
+            match step(&mut creature, &mut row, self.settings.limits, &mut draws) {
                 Act::Plain | Act::Wrote { .. } => {}
                 Act::Erred => self.err(front, &mut creature),
                 Act::Mal { size } => self.mal(front, &mut creature, size),
-                Act::Divide => self.divide(front, &mut creature),
+                Act::Divide => self.divide(front, &mut creature, quantum),
             }
         }
         self.creatures[front] = Some(creature);
         self.slicer.rotate_left(1);
+        self.quanta = quantum;
+    }
+
+    fn creature(&self, place: usize) -> &Creature {
+        self.creatures[place].as_ref().expect("alive")
+    }
+
+    fn slice_of(&self, creature: &Creature) -> u32 {
+        let settings = &self.settings;
+        if !settings.slice_by_size {
+            return settings.slice_size;
+        }
+        let by_size = u64::from(creature.own.size) * u64::from(settings.slice_num) / u64::from(settings.slice_den);
+        by_size.clamp(1, MOST_SLICE) as u32
+    }
+
+    /// Kills so many percent of the living, but never the creature that runs.
+    fn disturb(&mut self, front: usize) {
+        let count = self.slicer.len() * self.settings.dist_percent as usize / 100;
+        for _ in 0..count {
+            if let Some(place) = self.first_other(front) {
+                self.reap(place);
+            }
+        }
+    }
+
+    /// The first place of the reaper queue that is not the creature's own.
+    fn first_other(&self, front: usize) -> Option<usize> {
+        self.reaper.iter().position(|other| *other != front)
     }
 
     fn errors(&self, place: usize) -> u64 {
-        self.creatures[self.reaper[place]].expect("alive").errors
+        self.creature(self.reaper[place]).errors
     }
 
     fn place_of(&self, creature: usize) -> usize {
@@ -160,12 +173,11 @@ impl World {
         }
         loop {
             if let Some(at) = self.room_for(size) {
-                self.taken.insert(at, size);
-                self.filled += size;
+                self.take(Block { at, size });
                 creature.take(Block { at, size });
                 return self.good(front, creature);
             }
-            match self.reaper.iter().position(|other| *other != front) {
+            match self.first_other(front) {
                 Some(place) => self.reap(place),
                 None => return self.err(front, creature),
             }
@@ -188,6 +200,11 @@ impl World {
         (self.settings.soup_size - free >= size).then_some(free)
     }
 
+    fn take(&mut self, block: Block) {
+        self.taken.insert(block.at, block.size);
+        self.filled += block.size;
+    }
+
     fn give_back(&mut self, block: Block) {
         self.taken.remove(&block.at);
         self.filled -= block.size;
@@ -205,12 +222,17 @@ impl World {
         self.deaths += 1;
     }
 
-    fn divide(&mut self, front: usize, creature: &mut Creature) {
+    fn divide(&mut self, front: usize, creature: &mut Creature, quantum: u64) {
         match creature.daughter {
             Some(own) if creature.moved * 100 >= u64::from(self.settings.move_percent * own.size) => {
                 self.good(front, creature);
+                let effort = Effort {
+                    ran: creature.ran,
+                    moved: creature.moved,
+                };
                 creature.bear();
-                self.enter(own);
+                self.genotypes.note(creature.genotype, creature.bred, effort);
+                self.enter(own, Some(creature.genotype), quantum);
                 self.births += 1;
             }
             _ => self.err(front, creature),
@@ -218,15 +240,10 @@ impl World {
     }
 
     /// A newborn enters both queues at the end, and is counted for its genotype.
-    fn enter(&mut self, own: Block) {
+    fn enter(&mut self, own: Block, parent: Option<usize>, quantum: u64) {
         let code = &self.soup[own.at as usize..(own.at + own.size) as usize];
-        match self.genotypes.get_mut(code) {
-            Some(count) => *count += 1,
-            None => {
-                self.genotypes.insert(code.to_vec(), 1);
-            }
-        }
-        let newborn = Some(Creature::newborn(self.next_birth, own));
+        let genotype = self.genotypes.count(code, parent, quantum);
+        let newborn = Some(Creature::newborn(self.next_birth, own, genotype));
         self.next_birth += 1;
         let place = match self.empty.pop() {
             Some(place) => {
