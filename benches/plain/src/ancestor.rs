@@ -2,11 +2,12 @@
 
 use std::iter::repeat_n;
 
+#[rustfmt::skip]
 const NAMES: [&str; 32] = [
     // instructions: made by docs/make_tables
-    "nop_0", "nop_1", "or1", "shl", "zero", "if_cz", "sub_ab", "sub_ac", "inc_a", "inc_b", "dec_c", "inc_c", "push_ax",
-    "push_bx", "push_cx", "push_dx", "pop_ax", "pop_bx", "pop_cx", "pop_dx", "jmp", "jmpb", "call", "ret", "mov_cd",
-    "mov_ab", "mov_iab", "adr", "adrb", "adrf", "mal", "divide",
+    "nop_0", "nop_1", "or1", "shl", "zero", "if_cz", "sub_ab", "sub_ac", "inc_a", "inc_b", "dec_c", "inc_c",
+    "push_ax", "push_bx", "push_cx", "push_dx", "pop_ax", "pop_bx", "pop_cx", "pop_dx", "jmp", "jmpb", "call",
+    "ret", "mov_cd", "mov_ab", "mov_iab", "adr", "adrb", "adrf", "mal", "divide",
     // end of instructions
 ];
 
