@@ -12,12 +12,21 @@ mod setup;
 mod world;
 
 use setup::Setup;
+use std::fs::read_to_string;
 use std::io::{self, Read, Write};
-use std::time::Instant;
+use std::thread::yield_now;
 use world::World;
 
-/// Runs the world of a soup file up to a quantum, and tells how many seconds the quanta after an earlier one took. It
-/// writes the world's bytes.
+/// The processor time of this process, in nanoseconds. The system brings its count up to date when a thread yields.
+fn processor_time() -> io::Result<u64> {
+    yield_now();
+    let counts = read_to_string("/proc/self/schedstat")?;
+    let first = counts.split(' ').next().and_then(|count| count.parse().ok());
+    Ok(first.expect("a count"))
+}
+
+/// Runs the world of a soup file up to a quantum, and tells the seconds of the processor that the quanta after an
+/// earlier one took. It writes the world's bytes.
 fn run(quanta: u64, after: u64) -> io::Result<()> {
     let mut file = String::new();
     io::stdin().read_to_string(&mut file)?;
@@ -25,11 +34,11 @@ fn run(quanta: u64, after: u64) -> io::Result<()> {
     for _ in 0..after {
         world.quantum();
     }
-    let start = Instant::now();
+    let start = processor_time()?;
     for _ in after..quanta {
         world.quantum();
     }
-    eprintln!("{:.6}", start.elapsed().as_secs_f64());
+    eprintln!("{:.6}", (processor_time()? - start) as f64 / 1e9);
     io::stdout().write_all(&world.bytes())
 }
 
