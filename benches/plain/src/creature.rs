@@ -7,6 +7,11 @@ pub struct Block {
 }
 
 impl Block {
+    /// The cell after the last one.
+    pub fn end(self) -> u32 {
+        self.at + self.size
+    }
+
     pub fn contains(self, at: u32) -> bool {
         at >= self.at && at - self.at < self.size
     }

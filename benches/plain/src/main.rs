@@ -4,6 +4,7 @@ mod ancestor;
 mod creature;
 mod crew;
 mod draws;
+mod free_list;
 mod genotypes;
 mod job;
 mod jobs;

@@ -4,10 +4,11 @@ mod bytes;
 
 use crate::creature::{Block, Creature};
 use crate::draws::Draws;
+use crate::free_list::FreeList;
 use crate::genotypes::{Effort, Genotypes};
 use crate::machine::{step, Act, View};
 use crate::setup::{Settings, Setup};
-use std::collections::{BTreeMap, VecDeque};
+use std::collections::VecDeque;
 
 /// The most instructions of a slice that goes by the creature's size.
 const MOST_SLICE: u64 = 10_000;
@@ -45,7 +46,7 @@ pub struct World {
     empty: Vec<usize>,
     slicer: VecDeque<usize>,
     reaper: Vec<usize>,
-    taken: BTreeMap<u32, u32>,
+    free: FreeList,
     filled: u32,
     genotypes: Genotypes,
     quanta: u64,
@@ -58,13 +59,13 @@ impl World {
     pub fn start(setup: Setup) -> World {
         let mut world = World {
             soup: vec![0; setup.settings.soup_size as usize],
+            free: FreeList::of(setup.settings.soup_size),
             genotypes: Genotypes::new(setup.settings.save_at),
             settings: setup.settings,
             creatures: Vec::new(),
             empty: Vec::new(),
             slicer: VecDeque::new(),
             reaper: Vec::new(),
-            taken: BTreeMap::new(),
             filled: 0,
             quanta: 0,
             next_birth: 1,
@@ -190,23 +191,16 @@ impl World {
         if u64::from(self.filled + size) * 100 > most {
             return None;
         }
-        let mut free = 0;
-        for (at, taken) in &self.taken {
-            if *at - free >= size {
-                return Some(free);
-            }
-            free = at + taken;
-        }
-        (self.settings.soup_size - free >= size).then_some(free)
+        self.free.fit(size)
     }
 
     fn take(&mut self, block: Block) {
-        self.taken.insert(block.at, block.size);
+        self.free.take(block);
         self.filled += block.size;
     }
 
     fn give_back(&mut self, block: Block) {
-        self.taken.remove(&block.at);
+        self.free.give_back(block);
         self.filled -= block.size;
     }
 
